@@ -1,0 +1,141 @@
+// Making the marks of a book, its days, and the days that are marked.
+ghost use mathlib.Core.Path.{_≡_};
+ghost use mathlib.Core.Bool.{Bool};
+ghost use Rattle.calendar.specs.Days.{kind-on};
+ghost use Rattle.register.specs.Held.{held};
+ghost use Rattle.register.specs.Order.{Rising};
+ghost use Rattle.marks.specs.Keys.{day-key};
+ghost use Rattle.marks.specs.Marked.{holiday, excluded, Orderly};
+use crate::DayMark;
+use crate::DayRecord;
+use crate::Event;
+use crate::EventRecord;
+use crate::MarkFault;
+use crate::Marks;
+use calendar::DayKind;
+use calendar::Resolution;
+use refusal::MakeFault;
+use register::Register;
+use register::RegisterFault;
+
+const MOST_DAYS: u32 = 4096;
+
+// The number of days, where a book may have so many.
+fn book_days(days: u32) -> Option<u16> {
+    if days >= 1 && days <= MOST_DAYS {
+        Some(days as u16)
+    } else {
+        None
+    }
+}
+
+// Marks a day, where the book has it.
+fn mark_in(register: &mut Register<DayMark>, days: u16, day: u16) -> Result<(), MarkFault>
+    ensures { λ _. ⌜ (Rising day-key (held (now (register .entry))) → Rising day-key (held (now (register .exit)))) ⌝ }
+{
+    if day >= days {
+        return Err(MarkFault::DayBeyond);
+    }
+    match register.insert(DayMark { day }) {
+        Ok(()) => Ok(()),
+        Err(RegisterFault::Full) => Err(MarkFault::Full),
+        Err(_) => Err(MarkFault::Already),
+    }
+}
+
+// Lifts the mark of a day.
+fn lift_in(register: &mut Register<DayMark>, day: u16) -> Result<(), MarkFault>
+    ensures { λ _. ⌜ (Rising day-key (held (now (register .entry))) → Rising day-key (held (now (register .exit)))) ⌝ }
+{
+    match register.remove(u32::from(day)) {
+        Ok(_) => Ok(()),
+        Err(_) => Err(MarkFault::Absent),
+    }
+}
+
+impl<'a> Marks<'a> {
+    // Whether a book may have so many intervals a day and so many days.
+    pub fn check(intervals: u32, days: u32) -> Option<MakeFault> {
+        match (Resolution::of(intervals), book_days(days)) {
+            (Some(_), Some(_)) => None,
+            _ => Some(MakeFault::Limits),
+        }
+    }
+
+    // New marks over three lent lists; where the check refuses, 48 intervals, 1 day and no slots.
+    pub fn new(intervals: u32, days: u32, holidays: &'a mut [DayMark], exclusions: &'a mut [DayMark], events: &'a mut [Event]) -> Marks<'a>
+        ensures { λ r. ⌜ Orderly r ⌝ }
+    {
+        match (Resolution::of(intervals), book_days(days)) {
+            (Some(resolution), Some(days)) => Marks {
+                resolution,
+                days,
+                holidays: Register::new(holidays),
+                exclusions: Register::new(exclusions),
+                events: Register::new(events),
+            },
+            _ => Marks {
+                resolution: Resolution::HalfHours,
+                days: 1,
+                holidays: Register::new(&mut holidays[0..0]),
+                exclusions: Register::new(&mut exclusions[0..0]),
+                events: Register::new(&mut events[0..0]),
+            },
+        }
+    }
+
+    pub fn resolution(&self) -> Resolution
+        ensures { λ r. ⌜ r ≡ now (self .entry) .resolution ⌝ }
+    {
+        self.resolution
+    }
+
+    pub fn days(&self) -> u16
+        ensures { λ r. ⌜ r ≡ now (self .entry) .days ⌝ }
+    {
+        self.days
+    }
+
+    pub fn is_holiday(&self, day: u16) -> bool
+        ensures { λ r. ⌜ (Orderly (now (self .entry)) → r ≡ holiday (now (self .entry)) day) ⌝ }
+    {
+        self.holidays.find(u32::from(day)).is_some()
+    }
+
+    pub fn is_exclusion(&self, day: u16) -> bool
+        ensures { λ r. ⌜ (Orderly (now (self .entry)) → r ≡ excluded (now (self .entry)) day) ⌝ }
+    {
+        self.exclusions.find(u32::from(day)).is_some()
+    }
+
+    // A day is non-business at a weekend or where it is marked a holiday, else business.
+    pub fn kind_of_day(&self, day: u16) -> DayKind
+        ensures { λ r. ⌜ (Orderly (now (self .entry)) → r ≡ kind-on day (holiday (now (self .entry)) day)) ⌝ }
+    {
+        calendar::kind_on(u32::from(day), self.is_holiday(day))
+    }
+
+    pub fn mark_holiday(&mut self, day: u16) -> Result<(), MarkFault>
+        ensures { λ _. ⌜ (Orderly (now (self .entry)) → Orderly (now (self .exit))) ⌝ }
+    {
+        mark_in(&mut self.holidays, self.days, day)
+    }
+
+    pub fn mark_exclusion(&mut self, day: u16) -> Result<(), MarkFault>
+        ensures { λ _. ⌜ (Orderly (now (self .entry)) → Orderly (now (self .exit))) ⌝ }
+    {
+        mark_in(&mut self.exclusions, self.days, day)
+    }
+
+    pub fn lift_holiday(&mut self, day: u16) -> Result<(), MarkFault>
+        ensures { λ _. ⌜ (Orderly (now (self .entry)) → Orderly (now (self .exit))) ⌝ }
+    {
+        lift_in(&mut self.holidays, day)
+    }
+
+    pub fn lift_exclusion(&mut self, day: u16) -> Result<(), MarkFault>
+        ensures { λ _. ⌜ (Orderly (now (self .entry)) → Orderly (now (self .exit))) ⌝ }
+    {
+        lift_in(&mut self.exclusions, day)
+    }
+}

@@ -1,0 +1,5 @@
+pub mod Places
+pub mod Shifts
+pub mod Lookups
+pub mod Orders
+pub mod Edits

@@ -1,0 +1,89 @@
+// Settling an event: a book of marks, a unit of neighbouring points, and the lines that the baseline and the meters give.
+// This file has the types; `book` has a book's calls, `energy` what a unit used, `trial` the search for a source that
+// cannot be used, and `settle` the settlement itself.
+ghost use mathlib.Core.Path.{_≡_};
+ghost use Rattle.marks.specs.Marked.{Orderly};
+ghost use Rattle.settlement.specs.Faults.{settle-refusal};
+use marks::Marks;
+use refusal::Refuse;
+
+mod book;
+mod energy;
+mod settle;
+mod trial;
+
+pub use settle::settle;
+pub use settle::settle_numbered;
+
+// A book: its marks.
+#[derive(Drop)]
+pub struct Book<'a> {
+    marks: Marks<'a>,
+    ghost orderly: { Orderly marks },
+}
+
+// A unit: so many neighbouring points from the first on.
+#[derive(Clone, Copy, PartialEq, Eq, Debug)]
+pub struct Unit {
+    pub first: u32,
+    pub count: u32,
+}
+
+// One interval of a settled event: its day and interval, the number of selected days, the baseline, the metered energy,
+// and the reduction, which is the baseline less the metered energy.
+#[derive(Clone, Copy, PartialEq, Eq, Debug)]
+pub struct Line {
+    pub day: u32,
+    pub interval: u32,
+    pub days: u32,
+    pub baseline: i32,
+    pub metered: u32,
+    pub reduction: i32,
+}
+
+// What `settle` answers: the event by its first place and count, the number of selected days, and the sum of reductions.
+#[derive(Drop)]
+pub struct Settlement {
+    first: u32,
+    count: u32,
+    days: u32,
+    sum: i64,
+}
+
+// Why an event is not settled.
+#[derive(Clone, Copy, PartialEq, Eq, Debug)]
+pub enum SettleFault {
+    // the unit is empty, has more than 16 points or lies beyond the store
+    Unit,
+    // there is no methodology of this number
+    Methodology,
+    // there is no event with this first place
+    NoEvent,
+    // the methodology does not serve the event's day
+    NotServed,
+    // fewer days than the methodology's minimum were selected for this day
+    TooFewDays { day: u16 },
+    // a source has no reading
+    Missing { point: u32, place: u32 },
+    // the unit's energy is above 5,000 at a source
+    AboveLimit { place: u32 },
+    // the list has fewer lines than the event has intervals
+    ShortList,
+}
+
+pub impl Refuse for SettleFault as SettleRefuse {
+    ghost refusal = { settle-refusal };
+
+    fn number(&self) -> u8 {
+        match self {
+            SettleFault::Unit => 18,
+            SettleFault::Methodology => 21,
+            SettleFault::NoEvent => 11,
+            SettleFault::NotServed => 13,
+            SettleFault::TooFewDays { .. } => 14,
+            SettleFault::Missing { .. } => 15,
+            SettleFault::AboveLimit { .. } => 16,
+            SettleFault::ShortList => 17,
+        }
+    }
+}
