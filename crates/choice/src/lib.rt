@@ -3,13 +3,10 @@ ghost use mathlib.Core.Path.{_≡_};
 ghost use Prim.Native.Nat.{_≤_};
 ghost use lib.ListN.{length, take};
 use marks::Marks;
-use method::Methodology;
+use method::methodology::Methodology;
 
 // How many matching days are looked at.
-const LOOKED_AT: u32 = 50;
-
-// The most days that a methodology wants.
-const MOST_WANTED: usize = 10;
+const LOOKED_AT: u8 = 50;
 
 // The selected days, the latest first.
 #[derive(Clone, Copy)]
@@ -35,14 +32,6 @@ impl Selected {
     {
         &self.days[0..self.count]
     }
-
-    // Selects one day more, if there is room.
-    fn add(&mut self, day: u16) {
-        if self.count < MOST_WANTED {
-            self.days[self.count] = day;
-            self.count += 1;
-        }
-    }
 }
 
 // Looks at the latest 50 days before `day` that match, and selects the latest of those that have no event, as many as
@@ -50,18 +39,19 @@ impl Selected {
 pub fn select<M: Methodology>(marks: &Marks, method: &M, day: u16) -> Selected {
     let kind = marks.kind_of_day(day);
     let wanted = usize::from(method.wanted(kind));
-    let mut selected = Selected { days: [0; 10], count: 0 };
-    let mut looked_at = 0;
-    for past in (0..day).rev() {
-        if looked_at >= LOOKED_AT || selected.len() >= wanted {
-            break;
-        }
+    let mut days = [0; 10];
+    let mut count = 0;
+    let mut looked_at: u8 = 0;
+    let mut past = day;
+    while past > 0 && looked_at < LOOKED_AT && count < wanted {
+        past -= 1;
         if method.matches(kind, marks.kind_of_day(past)) {
             looked_at += 1;
             if !marks.is_event_day(past) {
-                selected.add(past);
+                days[count] = past;
+                count += 1;
             }
         }
     }
-    selected
+    Selected { days, count }
 }

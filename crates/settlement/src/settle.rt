@@ -16,9 +16,10 @@ use crate::energy::unit_energy;
 use crate::trial::try_run;
 use choice::Selected;
 use marks::Event;
-use method::Energies;
-use method::Methodology;
-use method::NumberedMethodology;
+use method::catalogue::numbered;
+use method::energies::Energies;
+use method::methodology::Methodology;
+use method::numbered::NumberedMethodology;
 use store::Store;
 
 impl Settlement {
@@ -208,7 +209,7 @@ pub fn settle_numbered<S: Store>(store: &S, book: &Book, unit: Unit, number: u8,
     if !fits(store, unit) {
         return Err(SettleFault::Unit);
     }
-    match method::numbered(number) {
+    match numbered(number) {
         Ok(method) => settle(store, book, unit, &method, first, lines),
         Err(_) => Err(SettleFault::Methodology),
     }

@@ -1,0 +1,5 @@
+pub mod Sizes
+pub mod Rounding
+pub mod Caps
+pub mod Additive
+pub mod Lawful

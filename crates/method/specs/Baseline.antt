@@ -1,0 +1,33 @@
+-- The two baselines, as fractions and rounded down.
+use Prim.Native.Nat.{ℕ, _+_, _*_, _/_}
+use mathlib.Core.Bool.{cond}
+use lib.Dec.{eqb, ltb}
+use lib.IntN.{ℤ, pos, _+ℤ_, _-ℤ_, _*ℤ_}
+use lib.Signed.{_≤ℤ_, _<ℤ_}
+use Rattle.std.specs.Numbers.{divEuclid}
+
+-- no energy on the selected days; a ratio of the event's day to their average below four fifths; one above six fifths; one between
+abbrev pub byRatio : {X : Type 0} → ℕ → ℕ → ℕ → X → X → X → X → X
+byRatio w a n plain low high between =
+    cond (eqb w 0) plain (cond (ltb (5 * n * a) (4 * w)) low (cond (ltb (6 * w) (5 * n * a)) high between))
+
+-- the capped baseline before rounding, as a fraction
+abbrev pub top : ℕ → ℕ → ℕ → ℕ → ℕ
+top v w a n = byRatio w a n v (4 * v) (6 * v) (v * a)
+
+abbrev pub under : ℕ → ℕ → ℕ → ℕ
+under w a n = byRatio w a n n (5 * n) (5 * n) w
+
+abbrev pub cappedOf : ℕ → ℕ → ℕ → ℕ → ℕ → ℤ
+cappedOf v w a n m = pos (top v w a n / under w a n)
+
+-- the additive baseline before rounding, as a sum over n * m
+abbrev pub sumOf : ℕ → ℕ → ℕ → ℕ → ℕ → ℤ
+sumOf v w a n m = pos (m * v + n * a) -ℤ pos w
+
+abbrev pub additiveOf : ℕ → ℕ → ℕ → ℕ → ℕ → ℤ
+additiveOf v w a n m = divEuclid (sumOf v w a n m) (pos (n * m))
+
+-- b is x / d rounded down, d above 0
+abbrev pub Floor : ℤ → ℕ → ℤ → Type 0
+Floor x d b = ((b *ℤ pos d) ≤ℤ x) × (x <ℤ ((b +ℤ pos 1) *ℤ pos d))
