@@ -32,8 +32,17 @@ holiday m d = marked-in d (held (m .holidays))
 abbrev pub excluded : Marks → ℕ → Bool
 excluded m d = marked-in d (held (m .exclusions))
 
--- each register has its records in rising order
+-- the records of each register are in rising order
+abbrev pub HolidaysRise : Marks → Type 0
+HolidaysRise m = Rising day-key (held (m .holidays))
+
+abbrev pub ExclusionsRise : Marks → Type 0
+ExclusionsRise m = Rising day-key (held (m .exclusions))
+
+abbrev pub EventsRise : Marks → Type 0
+EventsRise m = Rising event-key (held (m .events))
+
 pub record Orderly (m : Marks) : Type 0 where
-  pub holidays : Rising day-key (held (m .holidays))
-  pub exclusions : Rising day-key (held (m .exclusions))
-  pub events : Rising event-key (held (m .events))
+  pub holidays : HolidaysRise m
+  pub exclusions : ExclusionsRise m
+  pub events : EventsRise m

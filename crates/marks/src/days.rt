@@ -63,7 +63,13 @@ impl<'a> Marks<'a> {
     }
 
     // New marks over three lent lists; where the check refuses, 48 intervals, 1 day and no slots.
-    pub fn new(intervals: u32, days: u32, holidays: &'a mut [DayMark], exclusions: &'a mut [DayMark], events: &'a mut [Event]) -> Marks<'a>
+    pub fn new(
+        intervals: u32,
+        days: u32,
+        holidays: &'a mut [DayMark],
+        exclusions: &'a mut [DayMark],
+        events: &'a mut [Event],
+    ) -> Marks<'a>
         ensures { λ r. ⌜ Orderly r ⌝ }
     {
         match (Resolution::of(intervals), book_days(days)) {

@@ -87,7 +87,11 @@ impl<'a> Marks<'a> {
         if self.overlaps(first, count) {
             return Err(MarkFault::Overlap);
         }
-        let event = Event { first, count, issued: false };
+        let event = Event {
+            first,
+            count,
+            issued: false,
+        };
         match self.events.insert(event) {
             Ok(()) => Ok(()),
             Err(_) => Err(MarkFault::Full),

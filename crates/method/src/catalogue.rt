@@ -39,9 +39,9 @@ pub fn numbered(number: u8) -> Result<Numbered, MethodFault>
 #[cfg(test)]
 mod tests {
     use super::*;
-    use calendar::DayKind;
     use crate::methodology::Methodology;
     use crate::numbered::NumberedMethodology;
+    use calendar::DayKind;
     use std::test::*;
 
     // Whether days of the kind are served, matched by business days and by others; the days wanted, the least, and the test days.

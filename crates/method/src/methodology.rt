@@ -4,9 +4,9 @@ ghost use Prim.Native.Nat.{_≤_};
 ghost use lib.IntN.{pos, negsuc};
 ghost use lib.Signed.{_≤ℤ_};
 ghost use Rattle.method.specs.Rules.{Rules, Lawful, setBy};
-use calendar::DayKind;
 use crate::energies::Energies;
 use crate::settings::Settings;
+use calendar::DayKind;
 
 pub trait Methodology {
     // The rules that it stands for.

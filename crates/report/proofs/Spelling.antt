@@ -51,7 +51,8 @@ spelling-more {total} {bytes} {at} {n} s t =
       low = omega arith;
       high = simp length-set (omega (arith, s .high));
       within = omega (arith, s .within);
-      fits = omega (arith, s .fits) }
+      fits = omega (arith, s .fits);
+    }
 
 pub spelling-all : {total bytes : List ℕ} {at n : ℕ} → Spelling total bytes at n → n < 10 → drop (at - 1) (set bytes (at - 1) (48 + n)) ≡ total
 spelling-all {total} {bytes} {at} {n} s t =

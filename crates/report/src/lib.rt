@@ -11,6 +11,7 @@ use numbers::put_number;
 use numbers::width;
 
 const HEADING: &[u8] = b"day interval days baseline metered reduction\n";
+
 const SUM: &[u8] = b"sum ";
 
 #[derive(Clone, Copy, PartialEq, Eq, Debug)]

@@ -35,7 +35,14 @@ pub fn run_energy<S: Store>(store: &S, unit: Unit, first: u32, count: u32) -> u6
 }
 
 // The unit's energy over `count` intervals from the interval `first` of each selected day.
-pub fn days_energy<S: Store>(store: &S, unit: Unit, days: &[u16], intervals: u32, first: u32, count: u32) -> u64
+pub fn days_energy<S: Store>(
+    store: &S,
+    unit: Unit,
+    days: &[u16],
+    intervals: u32,
+    first: u32,
+    count: u32,
+) -> u64
     requires { ⌜ unit .count ≤ 16 ⌝ ∗ ⌜ length (now days) ≤ 10 ⌝ ∗ ⌜ count ≤ 36 ⌝ ∗ ⌜ intervals ≤ 288 ⌝ }
     ensures { λ r. ⌜ r ≤ 65535 * 16 * 36 * length (now (days .entry)) ⌝ }
 {

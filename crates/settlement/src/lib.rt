@@ -1,25 +1,27 @@
 // Settling an event: a book of marks, a unit of neighbouring points, and the lines that the baseline and the meters give.
-// This file has the types; `book` has a book's calls, `energy` what a unit used, `trial` the search for a source that
-// cannot be used, and `settle` the settlement itself.
+// This file has the types; `marking` has a book's calls, `energy` what a unit used, `trial` the search for a source that
+// cannot be used, and `settling` the settlement itself.
 ghost use mathlib.Core.Path.{_≡_};
-ghost use Rattle.marks.specs.Marked.{Orderly};
+ghost use Rattle.marks.specs.Marked.{HolidaysRise, ExclusionsRise, EventsRise};
 ghost use Rattle.settlement.specs.Faults.{settle-refusal};
 use marks::Marks;
 use refusal::Refuse;
 
-mod book;
 mod energy;
-mod settle;
+mod marking;
+mod settling;
 mod trial;
 
-pub use settle::settle;
-pub use settle::settle_numbered;
+pub use settling::settle;
+pub use settling::settle_numbered;
 
 // A book: its marks.
 #[derive(Drop)]
 pub struct Book<'a> {
     marks: Marks<'a>,
-    ghost orderly: { Orderly marks },
+    ghost holidays_rise: { HolidaysRise marks },
+    ghost exclusions_rise: { ExclusionsRise marks },
+    ghost events_rise: { EventsRise marks },
 }
 
 // A unit: so many neighbouring points from the first on.

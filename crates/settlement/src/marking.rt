@@ -18,7 +18,13 @@ impl<'a> Book<'a> {
     }
 
     // A new book over three lent lists; where the check refuses, 48 intervals, 1 day and no slots.
-    pub fn new(intervals: u32, days: u32, holidays: &'a mut [DayMark], exclusions: &'a mut [DayMark], events: &'a mut [Event]) -> Book<'a> {
+    pub fn new(
+        intervals: u32,
+        days: u32,
+        holidays: &'a mut [DayMark],
+        exclusions: &'a mut [DayMark],
+        events: &'a mut [Event],
+    ) -> Book<'a> {
         Book {
             marks: Marks::new(intervals, days, holidays, exclusions, events),
         }

@@ -2,6 +2,7 @@
 ghost use mathlib.Core.Path.{_≡_};
 ghost use mathlib.Core.Bool.{true};
 ghost use Prim.Native.Nat.{_≤_};
+ghost use lib.ListN.{length};
 ghost use lib.IntN.{pos, negsuc};
 ghost use lib.Signed.{_≤ℤ_};
 use crate::Book;
@@ -77,9 +78,13 @@ fn first_interval(plan: &Plan) -> u32 {
 }
 
 // The event, its day served, and enough selected days.
-fn plan<M: Methodology>(book: &Book, method: &M, first: u32) -> Result<Plan, SettleFault> {
+fn plan_of<M: Methodology>(book: &Book, method: &M, first: u32) -> Result<Plan, SettleFault> {
     let marks = book.marks();
-    let (Some(day), Some(event), Some(lead)) = (marks.day_of(first), marks.event_at(first), marks.lead(first)) else {
+    let (Some(day), Some(event), Some(lead)) = (
+        marks.day_of(first),
+        marks.event_at(first),
+        marks.lead(first),
+    ) else {
         return Err(SettleFault::NoEvent);
     };
     let kind = marks.kind_of_day(day);
@@ -94,7 +99,14 @@ fn plan<M: Methodology>(book: &Book, method: &M, first: u32) -> Result<Plan, Set
     let intervals = resolution.intervals();
     let window = resolution.window_start(lead.first % intervals);
     let width = resolution.window_length();
-    Ok(Plan { event, day, selected, intervals, window, width })
+    Ok(Plan {
+        event,
+        day,
+        selected,
+        intervals,
+        window,
+        width,
+    })
 }
 
 // The sources of one day: the window, then the event's intervals.
@@ -103,7 +115,12 @@ fn try_day<S: Store>(store: &S, unit: Unit, plan: &Plan, day: u16) -> Result<(),
 {
     let start = u32::from(day) * plan.intervals;
     try_run(store, unit, start.saturating_add(plan.window), plan.width)?;
-    try_run(store, unit, start.saturating_add(first_interval(plan)), plan.event.count)
+    try_run(
+        store,
+        unit,
+        start.saturating_add(first_interval(plan)),
+        plan.event.count,
+    )
 }
 
 // All sources: the selected days, the latest first, then the event's day.
@@ -117,10 +134,17 @@ fn try_sources<S: Store>(store: &S, unit: Unit, plan: &Plan) -> Result<(), Settl
 }
 
 // The energies of the window, over the selected days and on the event's day.
-fn adjustment<S: Store>(store: &S, unit: Unit, plan: &Plan) -> Adjustment
+fn adjust<S: Store>(store: &S, unit: Unit, plan: &Plan) -> Adjustment
     requires { ⌜ unit .count ≤ 16 ⌝ }
 {
-    let past = days_energy(store, unit, plan.selected.days(), plan.intervals, plan.window, plan.width);
+    let past = days_energy(
+        store,
+        unit,
+        plan.selected.days(),
+        plan.intervals,
+        plan.window,
+        plan.width,
+    );
     let start = (u32::from(plan.day) * plan.intervals).saturating_add(plan.window);
     let present = run_energy(store, unit, start, plan.width);
     Adjustment { past, present }
@@ -131,19 +155,39 @@ fn baseline_of<M: Methodology>(method: &M, plan: &Plan, past: u64, adjustment: A
     ensures low { λ r. ⌜ negsuc 4999 ≤ℤ r ⌝ }
     ensures high { λ r. ⌜ r ≤ℤ pos 10000 ⌝ }
 {
-    match Energies::new(past, adjustment.past, adjustment.present, plan.selected.len() as u16, plan.width as u16) {
+    match Energies::new(
+        past,
+        adjustment.past,
+        adjustment.present,
+        plan.selected.len() as u16,
+        plan.width as u16,
+    ) {
         Some(energies) => method.baseline(&energies),
         None => 0,
     }
 }
 
 // The line of an interval of the event.
-fn line_at<S: Store, M: Methodology>(store: &S, unit: Unit, plan: &Plan, method: &M, adjustment: Adjustment, interval: u32) -> Line
+fn line_at<S: Store, M: Methodology>(
+    store: &S,
+    unit: Unit,
+    plan: &Plan,
+    method: &M,
+    adjustment: Adjustment,
+    interval: u32,
+) -> Line
     requires { ⌜ unit .count ≤ 16 ⌝ }
     ensures low { λ r. ⌜ negsuc 1999999 ≤ℤ r .reduction ⌝ }
     ensures high { λ r. ⌜ r .reduction ≤ℤ pos 10000 ⌝ }
 {
-    let past = days_energy(store, unit, plan.selected.days(), plan.intervals, interval, 1);
+    let past = days_energy(
+        store,
+        unit,
+        plan.selected.days(),
+        plan.intervals,
+        interval,
+        1,
+    );
     let baseline = baseline_of(method, plan, past, adjustment);
     let place = (u32::from(plan.day) * plan.intervals).saturating_add(interval);
     let metered = unit_energy(store, unit, place) as u32;
@@ -158,18 +202,30 @@ fn line_at<S: Store, M: Methodology>(store: &S, unit: Unit, plan: &Plan, method:
 }
 
 // Fills the first lines, one an interval, and gives the sum of their reductions.
-fn fill<S: Store, M: Methodology>(store: &S, unit: Unit, plan: &Plan, method: &M, lines: &mut [Line]) -> i64
-    requires { ⌜ unit .count ≤ 16 ⌝ }
+fn fill<S: Store, M: Methodology>(
+    store: &S,
+    unit: Unit,
+    plan: &Plan,
+    method: &M,
+    lines: &mut [Line],
+) -> i64
+    requires unit { ⌜ unit .count ≤ 16 ⌝ }
+    requires room { ⌜ now plan .event .count ≤ length (now lines) ⌝ }
 {
-    let adjustment = adjustment(store, unit, plan);
+    let adjustment = adjust(store, unit, plan);
     let first = first_interval(plan);
     let mut sum = 0;
     for i in 0..plan.event.count {
-        if (i as usize) < lines.len() {
-            let line = line_at(store, unit, plan, method, adjustment, first.saturating_add(i));
-            lines[i as usize] = line;
-            sum += i64::from(line.reduction);
-        }
+        let line = line_at(
+            store,
+            unit,
+            plan,
+            method,
+            adjustment,
+            first.saturating_add(i),
+        );
+        lines[i as usize] = line;
+        sum += i64::from(line.reduction);
     }
     sum
 }
@@ -186,11 +242,18 @@ fn fits<S: Store>(store: &S, unit: Unit) -> bool
 
 // Settles the event with this first place for a unit. It fills the first lines of the list, one an interval, or declines
 // and leaves the list as it was. The causes are tried in the order 18, 11, 13, 14, 17, then the sources.
-pub fn settle<S: Store, M: Methodology>(store: &S, book: &Book, unit: Unit, method: &M, first: u32, lines: &mut [Line]) -> Result<Settlement, SettleFault> {
+pub fn settle<S: Store, M: Methodology>(
+    store: &S,
+    book: &Book,
+    unit: Unit,
+    method: &M,
+    first: u32,
+    lines: &mut [Line],
+) -> Result<Settlement, SettleFault> {
     if !fits(store, unit) {
         return Err(SettleFault::Unit);
     }
-    let plan = plan(book, method, first)?;
+    let plan = plan_of(book, method, first)?;
     if lines.len() < plan.event.count as usize {
         return Err(SettleFault::ShortList);
     }
@@ -205,7 +268,14 @@ pub fn settle<S: Store, M: Methodology>(store: &S, book: &Book, unit: Unit, meth
 }
 
 // Settles by the methodology of a number; an unknown one is declined by 21, after 18.
-pub fn settle_numbered<S: Store>(store: &S, book: &Book, unit: Unit, number: u8, first: u32, lines: &mut [Line]) -> Result<Settlement, SettleFault> {
+pub fn settle_numbered<S: Store>(
+    store: &S,
+    book: &Book,
+    unit: Unit,
+    number: u8,
+    first: u32,
+    lines: &mut [Line],
+) -> Result<Settlement, SettleFault> {
     if !fits(store, unit) {
         return Err(SettleFault::Unit);
     }
