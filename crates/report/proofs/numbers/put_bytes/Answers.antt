@@ -14,4 +14,4 @@ placed text part last at f =
     ap (λ n. putMid at n text last) k ∙ ap (λ ys. take at text ++ (ys ++ drop (length part) (drop at text))) f ∙ ap (λ r. take at text ++ (part ++ r)) (drop-drop (length part) at text)
 
 pub returns : need.returns
-returns c = (refl, placed (c .args .text .now) (c .args .part .now) _ (c .args .at) (c .copy-from-slice .ensures .after))
+returns c = (refl, placed (c .args .text .now) (c .args .bytes .now) _ (c .args .at) (c .copy-from-slice .ensures .after))
