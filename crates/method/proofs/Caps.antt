@@ -1,4 +1,4 @@
--- The capped baseline: its fraction lies between 0.8 and 1.2 of the plain one, it rises with A, and it has bounds. Assumes nothing.
+-- The capped baseline: its fraction lies from four to six fifths of the plain one, it rises with A, and it has bounds. Assumes nothing.
 use mathlib.Core.Path.{_≡_, _∙_}
 use mathlib.Core.Logic.{⊎-elim}
 use Prim.Native.Nat.{ℕ, _*_, _/_, _≤_, _<_}
@@ -37,7 +37,7 @@ cases v w a n =
     (cases-bool (ltb (5 * n * a) (4 * w))))
     (cases-bool (eqb w 0))
 
--- before rounding, the baseline is from 0.8 to 1.2 of V / n
+-- before rounding, the baseline is from four to six fifths of V / n
 pub within-caps : (v w a n : ℕ) → (4 * v * under w a n ≤ 5 * n * top v w a n) × (5 * n * top v w a n ≤ 6 * v * under w a n)
 within-caps v w a n =
     elim (cases v w a n) [
@@ -79,6 +79,7 @@ rises v w a b n hn h =
       ]
     ]
 
+-- it is at most 6000
 pub below : (v w a n : ℕ) → 0 < n → v ≤ 5000 * n → top v w a n / under w a n ≤ 6000
 below v w a n hn h =
     elim (cases v w a n) [

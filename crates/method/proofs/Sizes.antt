@@ -16,7 +16,6 @@ pub record Sizes (v w a n m : ℕ) : Type 0 where
   pub mv : m * v ≤ 21474181125000
   pub na : n * a ≤ 21474181125000
   pub ww : w ≤ 21474181125000
-  pub va : v * a ≤ 107370905625000000
   pub some : 0 < n * m
   pub nm : n * m ≤ 4294836225
 
@@ -28,5 +27,4 @@ sizes v w a n m hn hm s =
     let aa : a ≤ 327675000 = omega arith in
     let mv : m * v ≤ 65535 * 327675000 = mul-le-mul hm vv in
     let na : n * a ≤ 65535 * 327675000 = mul-le-mul hn aa in
-    let va : v * a ≤ 327675000 * 327675000 = mul-le-mul vv aa in
-    record { mv = mv; na = na; ww = omega arith; va = va; some = some; nm = nm }
+    record { mv = mv; na = na; ww = omega arith; some = some; nm = nm }

@@ -11,20 +11,23 @@ abbrev pub byRatio : {X : Type 0} → ℕ → ℕ → ℕ → X → X → X → 
 byRatio w a n plain low high between =
     cond (eqb w 0) plain (cond (ltb (5 * n * a) (4 * w)) low (cond (ltb (6 * w) (5 * n * a)) high between))
 
--- the capped baseline before rounding, as a fraction
+-- the top of the capped fraction, before rounding
 abbrev pub top : ℕ → ℕ → ℕ → ℕ → ℕ
 top v w a n = byRatio w a n v (4 * v) (6 * v) (v * a)
 
+-- what the capped fraction is over
 abbrev pub under : ℕ → ℕ → ℕ → ℕ
 under w a n = byRatio w a n n (5 * n) (5 * n) w
 
+-- the capped baseline
 abbrev pub cappedOf : ℕ → ℕ → ℕ → ℕ → ℕ → ℤ
 cappedOf v w a n m = pos (top v w a n / under w a n)
 
--- the additive baseline before rounding, as a sum over n * m
+-- the sum that is over n * m in the additive baseline, before rounding
 abbrev pub sumOf : ℕ → ℕ → ℕ → ℕ → ℕ → ℤ
 sumOf v w a n m = pos (m * v + n * a) -ℤ pos w
 
+-- the additive baseline
 abbrev pub additiveOf : ℕ → ℕ → ℕ → ℕ → ℕ → ℤ
 additiveOf v w a n m = divEuclid (sumOf v w a n m) (pos (n * m))
 

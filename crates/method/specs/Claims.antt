@@ -18,13 +18,15 @@ CappedFloor = (v w a n m : ℕ) → 0 < n → (0 < under w a n) × Floor (pos (t
 abbrev pub AdditiveFloor : Type 0
 AdditiveFloor = (v w a n m : ℕ) → 0 < n → 0 < m → Floor (sumOf v w a n m) (n * m) (additiveOf v w a n m)
 
--- the baselines of methodologies 1 and 5, at V, W, A, n and m
+-- the baseline of methodology 1 at V, W, A, n and m
 abbrev pub first : ℕ → ℕ → ℕ → ℕ → ℕ → ℤ
 first = cappedRules Capped.AllDays .baseline
 
+-- the baseline of methodology 5
 abbrev pub fifth : ℕ → ℕ → ℕ → ℕ → ℕ → ℤ
 fifth = similarRules (record {}) .baseline
 
+-- worked figures
 abbrev pub Figures : Type 0
 Figures = (fifth 800 26800 3400 10 36 ≡ pos 100) × (first 800 26800 3400 10 36 ≡ pos 96)
     × (fifth 4400 25300 2770 10 6 ≡ pos 480) × (first 4400 25300 2770 10 6 ≡ pos 481)

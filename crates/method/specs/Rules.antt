@@ -35,7 +35,9 @@ FromOneToTen least most = (1 ≤ least) × (least ≤ most) × (most ≤ 10)
 -- what holds of every methodology's rules
 pub record Lawful (r : Rules) : Type 0 where
   pub counts : (k : DayKind) → FromOneToTen (r .minimum k) (r .wanted k)
+  -- from one to fifty matching days are looked through
   pub tested : (1 ≤ r .tests) × (r .tests ≤ 50)
+  -- the baseline lies from -5000 to 10000
   pub within : (v w a n m : ℕ) → Sound v w a n m → (negsuc 4999 ≤ℤ r .baseline v w a n m) × (r .baseline v w a n m ≤ℤ pos 10000)
   -- more energy on the event's day never lowers the baseline
   pub rises : (v w a b n m : ℕ) → Sound v w b n m → a ≤ b → r .baseline v w a n m ≤ℤ r .baseline v w b n m

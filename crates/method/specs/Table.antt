@@ -9,37 +9,43 @@ use Rattle.method.specs.declared.settings.Matching.{Matching}
 use Rattle.method.specs.declared.settings.Count.{Count}
 use Rattle.method.specs.declared.settings.Settings.{Settings}
 
+-- whether a day is a business day
 abbrev pub isBusiness : DayKind → Bool
 isBusiness DayKind.Business = true
 isBusiness DayKind.NonBusiness = false
 
+-- whether a day is none
 abbrev pub isOther : DayKind → Bool
 isOther DayKind.Business = false
 isOther DayKind.NonBusiness = true
 
--- whether an event on a day of the kind is served
+-- whether an event on a day of the kind is served, by the kinds served
 abbrev pub serving : Served → DayKind → Bool
 serving Served.All kind = true
 serving Served.Business kind = isBusiness kind
 serving Served.NonBusiness kind = isOther kind
 
--- whether a past day matches a day of the kind
+-- whether two days are of one kind
 abbrev pub alike : DayKind → DayKind → Bool
 alike DayKind.Business past = isBusiness past
 alike DayKind.NonBusiness past = isOther past
 
+-- whether a past day matches the event's day, by the kinds that match
 abbrev pub agrees : Matching → DayKind → DayKind → Bool
 agrees Matching.All day past = true
 agrees Matching.Business day past = isBusiness past
 agrees Matching.NonBusiness day past = isOther past
 agrees Matching.SameKind day past = alike day past
 
+-- whether the settings serve a day
 abbrev pub servedBy : Settings → DayKind → Bool
 servedBy s kind = serving (s .serves) kind
 
+-- whether the settings match a past day to the event's day
 abbrev pub matchedBy : Settings → DayKind → DayKind → Bool
 matchedBy s day past = agrees (s .matching) day past
 
+-- the count for a day
 abbrev pub countOn : Settings → DayKind → Count
 countOn s DayKind.Business = s .business
 countOn s DayKind.NonBusiness = s .«non_business»
@@ -48,10 +54,11 @@ countOn s DayKind.NonBusiness = s .«non_business»
 abbrev pub counted : ℕ → ℕ → Count
 counted most least = record { wanted = most; minimum = least }
 
+-- the settings of one methodology
 abbrev pub row : Served → Matching → Count → Count → ℕ → Settings
 row s m b o t = record { serves = s; matching = m; business = b; «non_business» = o; «test_days» = t }
 
--- kinds served, kinds that match, counts on a business day and on another, test days
+-- the methodologies 1 to 5: kinds served, kinds that match, counts on a business day and on another, test days
 abbrev pub rows : List Settings
 rows =
     row Served.All Matching.All (counted 10 5) (counted 10 5) 50
@@ -61,5 +68,6 @@ rows =
     ∷ row Served.All Matching.SameKind (counted 10 10) (counted 10 10) 50
     ∷ []
 
+-- the settings of a number from 1 to 5
 abbrev pub settingsOf : ℕ → Settings
-settingsOf number = getD rows (number - 1) (row Served.All Matching.All (counted 10 5) (counted 10 5) 50)
+settingsOf number = getD rows (number - 1) (row Served.All Matching.All (counted 1 1) (counted 1 1) 1)

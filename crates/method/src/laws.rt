@@ -1,4 +1,4 @@
-// What holds of the two baselines, before and after rounding, and worked figures.
+// What holds of the two baselines, before and after rounding, of every methodology, and worked figures.
 ghost use Rattle.method.specs.Claims.{Caps, CappedFloor, AdditiveFloor, Figures};
 ghost use Rattle.method.specs.Rules.{Lawful};
 use crate::methodology::Methodology;

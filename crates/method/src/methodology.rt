@@ -12,12 +12,14 @@ pub trait Methodology {
     // The rules that it stands for.
     ghost meaning: { Self → Rules };
 
+    // The laws that every methodology owes.
     law lawful: { (s : Self) → Lawful (meaning s) };
 
     // Its settings: the rules but for the baseline.
     fn settings(&self) -> Settings
         ensures { λ r. ⌜ meaning (now (self .entry)) ≡ setBy r (meaning (now (self .entry)) .baseline) ⌝ };
 
+    // The baseline of the energies, rounded down.
     fn baseline(&self, e: &Energies) -> i32
         ensures value { λ r. ⌜ r ≡ meaning (now (self .entry)) .baseline (now (e .entry) .v) (now (e .entry) .w) (now (e .entry) .a) (now (e .entry) .n) (now (e .entry) .m) ⌝ }
         ensures bounds { λ r. ⌜ (negsuc 4999 ≤ℤ r) × (r ≤ℤ pos 10000) ⌝ };
@@ -39,7 +41,7 @@ pub trait Methodology {
     // How many days it selects for a day of the kind.
     fn wanted(&self, day: DayKind) -> u8
         ensures value { λ r. ⌜ r ≡ meaning (now (self .entry)) .wanted day ⌝ }
-        ensures bounds { λ r. ⌜ (meaning (now (self .entry)) .minimum day ≤ r) × (r ≤ 10) ⌝ }
+        ensures bounds { λ r. ⌜ (1 ≤ r) × (meaning (now (self .entry)) .minimum day ≤ r) × (r ≤ 10) ⌝ }
     {
         self.settings().count(day).wanted
     }

@@ -8,13 +8,15 @@ use native.Mathlib.Omega.{arith}
 use lib.Dec.{eqb}
 use lib.ListN.{length, getD, set}
 use Rattle.std.specs.shelf.Lists.{inserted, removed}
+use Rattle.std.specs.shelf.Maps.{nth}
+use Rattle.std.proofs.shelf.Maps.{nth-getD, nth-past}
 use Rattle.std.proofs.shelf.Tests.{cases-lt, cases-eq, eqb-true, eq-eqb, ne-eqb, cond-true, cond-false}
 use Rattle.std.proofs.shelf.Lists.{getD-default}
 use Rattle.std.proofs.shelf.Ways.{tells}
 use Rattle.std.specs.declared.option.Option.{Option}
 use Rattle.std.specs.declared.option.Option.the-variants.{Some, None}
 use Rattle.register.specs.Order.{spot, seek, Rising}
-use Rattle.register.proofs.Places.{absent, spot-is, not-at, not-past}
+use Rattle.register.proofs.Places.{absent, spot-at, spot-is, not-at, not-past}
 
 none-parts : {X : Type 0} (b : Bool) (x : X) (o : Option X) → cond b (Some x) o ≡ None → (b ≡ false) × (o ≡ None)
 none-parts true x o e = let z : _≡_ {A = ℕ} 0 1 = cc in absurd (omega arith)
@@ -25,6 +27,14 @@ pub seek-none : {X : Type 0} (key : X → ℕ) (k : ℕ) (xs : List X) → seek 
 seek-none key k [] n i d h e = omega arith
 seek-none key k (x ∷ xs) n zero d h e = let f = none-parts (eqb k (key x)) x (seek key k xs) n .0 in grind (arith, tells)
 seek-none key k (x ∷ xs) n (suc i) d h e = seek-none key k xs (none-parts (eqb k (key x)) x (seek key k xs) n .1) i d (omega arith) e
+
+-- where there is a record at a rank
+pub nth-some : {X : Type 0} (xs : List X) (i : ℕ) (y : X) → nth xs i ≡ Some y → (i < length xs) × ((d : X) → getD xs i d ≡ y)
+nth-some xs i y e =
+    ⊎-elim
+    (λ (l : i < length xs). (l, λ d. let w = nth-getD xs i d l in cc))
+    (λ (l : length xs ≤ i). let w = nth-past xs i l in let z : _≡_ {A = ℕ} 0 1 = cc in absurd (omega arith))
+    (cases-lt i (length xs))
 
 -- what a look-up finds has the key
 key-split : {X : Type 0} (key : X → ℕ) (k : ℕ) (x y : X) (o : Option X) (b : Bool) → eqb k (key x) ≡ b → (o ≡ Some y → key y ≡ k) → cond b (Some x) o ≡ Some y → key y ≡ k
@@ -107,6 +117,26 @@ module _ {X : Type 0} (key : X → ℕ) where
       (cases-eq (key (getD xs s y)) k))
       (λ (l : length xs ≤ s). let w = not-past key k xs rise l in let z : _≡_ {A = ℕ} 0 1 = cc in absurd (omega arith))
       (cases-lt s (length xs))
+
+  -- the record that `get` gives at a rank, and the one that a look-up gives
+  pub nth-seek : (xs : List X) → Rising key xs → (i : ℕ) (y : X) → nth xs i ≡ Some y → seek key (key y) xs ≡ Some y
+  nth-seek xs rise i y e = let r = nth-some xs i y e in seek-at (key y) xs rise i y (r .0) (ap key (r .1 y)) ∙ ap Some (r .1 y)
+
+  pub seek-nth : (k : ℕ) (xs : List X) → Rising key xs → (y : X) → seek key k xs ≡ Some y → nth xs (spot key k xs) ≡ Some y
+  seek-nth k xs rise y e = let r = seek-some k xs rise y e in nth-getD xs (spot key k xs) y (r .0) ∙ ap Some (r .1 y)
+
+  -- the record at the spot of k has a key of at least k
+  pub nth-spot : (k : ℕ) (xs : List X) (y : X) → nth xs (spot key k xs) ≡ Some y → k ≤ key y
+  nth-spot k xs y e = let r = nth-some xs (spot key k xs) y e in let w : key (getD xs (spot key k xs) y) ≡ key y = ap key (r .1 y) in omega (arith, spot-at key k xs y (r .0))
+
+  -- of two records the later has the greater key
+  pub nth-rises : (xs : List X) → Rising key xs → (i j : ℕ) (x y : X) → i < j → nth xs i ≡ Some x → nth xs j ≡ Some y → key x < key y
+  nth-rises xs rise i j x y h e f =
+      let r = nth-some xs i x e in
+      let q = nth-some xs j y f in
+      let v : key (getD xs i y) ≡ key x = ap key (r .1 y) in
+      let w : key (getD xs j y) ≡ key y = ap key (q .1 y) in
+      omega (arith, rise i j y (h, q .0))
 
   -- after an insertion
   pub seek-inserted : (y : X) (xs : List X) (s : ℕ) → seek key (key y) xs ≡ None → (j : ℕ) → seek key j (inserted xs s y) ≡ cond (eqb j (key y)) (Some y) (seek key j xs)

@@ -1,9 +1,9 @@
 -- Records stay in the order of their keys, and what each edit makes of them. Assumes nothing.
-use mathlib.Core.Path.{_≡_, sym, ap, subst, _∙_}
+use mathlib.Core.Path.{_≡_, sym, ap, _∙_}
 use mathlib.Core.Bool.{cond}
-use mathlib.Core.List.{List, []}
+use mathlib.Core.List.{List, [], _∷_}
 use mathlib.Core.Logic.{⊎-elim}
-use Prim.Native.Nat.{ℕ, _+_, _-_, _≤_, _<_}
+use Prim.Native.Nat.{ℕ, suc, _+_, _-_, _≤_, _<_}
 use native.Mathlib.Omega.{arith}
 use lib.Dec.{ltb}
 use lib.ListN.{length, getD, set}
@@ -22,6 +22,9 @@ use Rattle.register.proofs.Lookups.{seek-none, seek-some}
 
 pub rising-none : {X : Type 0} (key : X → ℕ) → Rising key []
 rising-none key i j d (h, l) = absurd (omega arith)
+
+pub rising-tail : {X : Type 0} (key : X → ℕ) (x : X) (xs : List X) → Rising key (x ∷ xs) → Rising key xs
+rising-tail key x xs rise i j d (h, l) = rise (suc i) (suc j) d (omega arith, omega arith)
 
 module _ {X : Type 0} (key : X → ℕ) (xs : List X) (x : X) (rise : Rising key xs) (new : seek key (key x) xs ≡ None) where
   abbrev s : ℕ

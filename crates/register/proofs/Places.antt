@@ -10,7 +10,6 @@ use lib.ListN.{length, getD}
 use Rattle.std.proofs.shelf.Tests.{cases-lt, cases-order, ne-eqb, leb-true, leb-false, cond-false}
 use Rattle.std.proofs.shelf.Lists.{getD-default}
 use Rattle.std.proofs.shelf.Ways.{tells}
-use Rattle.std.specs.declared.option.Option.{Option}
 use Rattle.std.specs.declared.option.Option.the-variants.{Some, None}
 use Rattle.register.specs.Order.{first, spot, seek, Rising}
 

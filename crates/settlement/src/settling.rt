@@ -3,6 +3,7 @@ ghost use mathlib.Core.Path.{_≡_};
 ghost use mathlib.Core.Bool.{true};
 ghost use Prim.Native.Nat.{_≤_};
 ghost use lib.ListN.{length};
+ghost use Rattle.std.specs.Vec.{made};
 ghost use lib.IntN.{pos, negsuc};
 ghost use lib.Signed.{_≤ℤ_};
 use crate::Book;
@@ -249,7 +250,9 @@ pub fn settle<S: Store, M: Methodology>(
     method: &M,
     first: u32,
     lines: &mut [Line],
-) -> Result<Settlement, SettleFault> {
+) -> Result<Settlement, SettleFault>
+    ensures { λ r. ⌜ made r (λ s. s .count ≤ length (now (lines .entry))) ⌝ }
+{
     if !fits(store, unit) {
         return Err(SettleFault::Unit);
     }
@@ -275,7 +278,9 @@ pub fn settle_numbered<S: Store>(
     number: u8,
     first: u32,
     lines: &mut [Line],
-) -> Result<Settlement, SettleFault> {
+) -> Result<Settlement, SettleFault>
+    ensures { λ r. ⌜ made r (λ s. s .count ≤ length (now (lines .entry))) ⌝ }
+{
     if !fits(store, unit) {
         return Err(SettleFault::Unit);
     }

@@ -1,7 +1,6 @@
 use mathlib.Core.Path.{_≡_, sym, ap, subst, _∙_}
-use Prim.Native.Nat.{_-_, _<_}
-use native.Mathlib.Omega.{arith}
-use lib.ListN.{length, getD, take}
+use Prim.Native.Nat.{_-_}
+use lib.ListN.{getD, take}
 use Rattle.std.specs.shelf.Lists.{removed}
 use Rattle.register.specs.Held.{held}
 use Rattle.register.proofs.Shifts.{front-all, front-at}

@@ -1,4 +1,4 @@
-use mathlib.Core.Path.{ap, sym, _∙_}
+use mathlib.Core.Path.{ap, _∙_}
 use native.Mathlib.Omega.{arith}
 use Rattle.register.proofs.Places.{not-at, not-past}
 use Rattle.register.proofs.ops.locate_in.Needs as need
