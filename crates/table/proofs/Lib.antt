@@ -1,0 +1,4 @@
+pub mod Bytes
+pub mod Cells
+pub mod Counts
+pub mod Changes

@@ -1,0 +1,2 @@
+pub mod Presence
+pub mod Grid
