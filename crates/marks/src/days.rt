@@ -1,6 +1,7 @@
 // Making the marks of a book, its days, and the days that are marked.
 ghost use mathlib.Core.Path.{_≡_};
 ghost use mathlib.Core.Bool.{Bool};
+ghost use lib.ListN.{length};
 ghost use Rattle.calendar.specs.Days.{kind-on};
 ghost use Rattle.register.specs.Held.{held};
 ghost use Rattle.register.specs.Order.{Rising};
@@ -100,6 +101,20 @@ impl<'a> Marks<'a> {
         ensures { λ r. ⌜ r ≡ now (self .entry) .days ⌝ }
     {
         self.days
+    }
+
+    // How many holidays are marked.
+    pub fn holiday_count(&self) -> usize
+        ensures { λ r. ⌜ r ≡ length (held (now (self .entry) .holidays)) ⌝ }
+    {
+        self.holidays.len()
+    }
+
+    // How many exclusions are marked.
+    pub fn exclusion_count(&self) -> usize
+        ensures { λ r. ⌜ r ≡ length (held (now (self .entry) .exclusions)) ⌝ }
+    {
+        self.exclusions.len()
     }
 
     pub fn is_holiday(&self, day: u16) -> bool
