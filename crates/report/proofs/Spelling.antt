@@ -1,15 +1,12 @@
 -- Digits from the last to the first. Assumes nothing.
 use mathlib.Core.Path.{_≡_, refl, ap, sym, subst, _∙_}
 use mathlib.Core.List.{List, [], _∷_, _++_, append-assoc}
-use Prim.Native.Nat.{ℕ, zero, suc, _+_, _-_, _*_, _/_, _%_, _^_, _≤_, _<_}
+use Prim.Native.Nat.{ℕ, zero, suc, _+_, _-_, _/_, _%_, _^_, _≤_, _<_}
 use native.Mathlib.Nat.{pow-suc}
 use native.Mathlib.Omega.{arith}
 use lib.IntN.{ℤ, pos, negsuc, natAbs}
 use lib.Signed.{_≤ℤ_, _<ℤ_}
-use lib.ListN.{length, take, drop, set, length-set, length-drop}
-use lib.Seq.{take-all, drop-drop}
-use borrow.Rule.Slice.PartMut.{putMid}
-use Rattle.report.specs.Texts.{with-bytes}
+use lib.ListN.{length, drop, set, length-set}
 use Rattle.std.proofs.shelf.Lists.{drop-set}
 use Rattle.std.proofs.shelf.Decimals.{decimal-digit, decimal-step}
 use Rattle.std.proofs.shelf.Signed.{ints}
@@ -35,8 +32,9 @@ spelling-room {at = at} {n} s t =
     let r = shrink (at - 1 - 1) n h t in
     (omega arith, r .1)
 
-written : (bytes : List ℕ) (at x : ℕ) → 1 ≤ at → at ≤ length bytes → drop (at - 1) (set bytes (at - 1) x) ≡ x ∷ drop at bytes
-written bytes at x l h =
+-- a byte put just before a place
+pub put-before : (bytes : List ℕ) (at x : ℕ) → 1 ≤ at → at ≤ length bytes → drop (at - 1) (set bytes (at - 1) x) ≡ x ∷ drop at bytes
+put-before bytes at x l h =
     let e : at - 1 + 1 ≡ at = omega arith in
     let in′ : at - 1 < length bytes = omega arith in
     drop-set bytes (at - 1) x in′ ∙ ap (λ k. x ∷ drop k bytes) e
@@ -46,7 +44,7 @@ spelling-more {total} {bytes} {at} {n} s t =
     let r = spelling-room s t in
     let one : 1 ≤ at = omega arith in
     record {
-      split = ap (λ ds. decimal (n / 10) ++ ds) (written bytes at (48 + n % 10) one (s .high)) ∙ sym (append-assoc (decimal (n / 10)) ((48 + n % 10) ∷ []) (drop at bytes)) ∙ ap (λ ds. ds ++ drop at bytes) (sym (decimal-step n t (s .fits))) ∙ s .split;
+      split = ap (λ ds. decimal (n / 10) ++ ds) (put-before bytes at (48 + n % 10) one (s .high)) ∙ sym (append-assoc (decimal (n / 10)) ((48 + n % 10) ∷ []) (drop at bytes)) ∙ ap (λ ds. ds ++ drop at bytes) (sym (decimal-step n t (s .fits))) ∙ s .split;
       small = r .1;
       low = omega arith;
       high = simp length-set (omega (arith, s .high));
@@ -57,7 +55,7 @@ spelling-more {total} {bytes} {at} {n} s t =
 pub spelling-all : {total bytes : List ℕ} {at n : ℕ} → Spelling total bytes at n → n < 10 → drop (at - 1) (set bytes (at - 1) (48 + n)) ≡ total
 spelling-all {total} {bytes} {at} {n} s t =
     let one : 1 ≤ at = omega (arith, s .low) in
-    written bytes at (48 + n) one (s .high) ∙ ap (λ ds. ds ++ drop at bytes) (sym (decimal-digit n t)) ∙ s .split
+    put-before bytes at (48 + n) one (s .high) ∙ ap (λ ds. ds ++ drop at bytes) (sym (decimal-digit n t)) ∙ s .split
 
 pub signed-below : (b : ℤ) → b <ℤ pos 0 → signed b ≡ 45 ∷ decimal (natAbs b)
 signed-below (pos n) h = absurd (omega (arith, ints))
@@ -66,15 +64,3 @@ signed-below (negsuc n) h = refl
 pub signed-above : (b : ℤ) → pos 0 ≤ℤ b → signed b ≡ decimal (natAbs b)
 signed-above (pos n) h = refl
 signed-above (negsuc n) h = absurd (omega (arith, ints))
-
-pub put-sign : (bytes : List ℕ) (at x : ℕ) → 1 ≤ at → at ≤ length bytes → drop (at - 1) (set bytes (at - 1) x) ≡ x ∷ drop at bytes
-put-sign = written
-
-pub whole : (bytes : List ℕ) (start : ℕ) → take (length bytes - start) (drop start bytes) ≡ drop start bytes
-whole bytes start = take-all (length bytes - start) (drop start bytes) (simp length-drop (omega arith))
-
-pub placed : (text part last p : List ℕ) (at : ℕ) → part ≡ p → last ≡ part → putMid at (at + length part - at) text last ≡ with-bytes text at p
-placed text part last p at e f =
-    let k : at + length part - at ≡ length part = omega arith in
-    let g : drop (length part) (drop at text) ≡ drop (at + length p) text = drop-drop (length part) at text ∙ ap (λ n. drop n text) (omega (arith, ap length e)) in
-    ap (λ n. putMid at n text last) k ∙ ap (λ ys. take at text ++ (ys ++ drop (length part) (drop at text))) (f ∙ e) ∙ ap (λ r. take at text ++ (p ++ r)) g

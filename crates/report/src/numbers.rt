@@ -3,10 +3,8 @@ ghost use mathlib.Core.Path.{_≡_};
 ghost use mathlib.Core.List.{[], _∷_, _++_};
 ghost use Prim.Native.Nat.{_+_, _^_, _<_, _≤_};
 ghost use lib.ListN.{length, drop};
-ghost use Rattle.std.specs.Results.{Cases};
-ghost use Rattle.std.specs.Written.{decimal};
-ghost use Rattle.report.specs.Texts.{piece, with-bytes};
-use crate::ReportFault;
+ghost use Rattle.std.specs.Written.{decimal, signed};
+ghost use Rattle.report.specs.Texts.{piece, Put};
 
 // The bytes of a number and of what ends it, at the end of an array.
 #[derive(Clone, Copy)]
@@ -16,6 +14,7 @@ struct Spelled {
     ghost ok: { start ≤ 20 },
 }
 
+// The digits of a number, and what ends it.
 fn spell_digits(number: u64, end: u8) -> Spelled
     requires { ⌜ number ≤ 2 ^ 63 ⌝ }
     ensures text { λ r. ⌜ drop (r .start) (r .bytes) ≡ decimal number ++ end ∷ [] ⌝ }
@@ -35,6 +34,7 @@ fn spell_digits(number: u64, end: u8) -> Spelled
     Spelled { bytes, start: at }
 }
 
+// A number in decimal, with a minus below zero, and what ends it.
 fn spell(b: i64, end: u8) -> Spelled
     ensures { λ r. ⌜ drop (r .start) (r .bytes) ≡ piece b end ⌝ }
 {
@@ -51,25 +51,27 @@ fn spell(b: i64, end: u8) -> Spelled
 
 // How many bytes a number and what ends it take.
 pub fn width(b: i64) -> usize
-    ensures { λ r. ⌜ r ≤ 21 ⌝ }
+    ensures exact { λ r. ⌜ r ≡ length (signed b) + 1 ⌝ }
+    ensures small { λ r. ⌜ r ≤ 21 ⌝ }
 {
     21 - spell(b, b' ').start
 }
 
-// Writes bytes at `at`, and gives the place after them; where they do not fit, the text stays as it was.
-pub fn put_bytes(text: &mut [u8], at: usize, bytes: &[u8]) -> Result<usize, ReportFault>
-    ensures { λ r. ⌜ Cases r (λ next. (next ≡ at + length (now (bytes .entry))) × (now (text .exit) ≡ with-bytes (now (text .entry)) at (now (bytes .entry)))) (λ _. (now (text .exit) ≡ now (text .entry)) × (length (now (text .entry)) < at + length (now (bytes .entry)))) ⌝ }
+// Writes bytes at `at`, and gives the place after them.
+pub fn put_bytes(text: &mut [u8], at: usize, bytes: &[u8]) -> usize
+    requires { ⌜ at + length (now bytes) ≤ length (now text) ⌝ }
+    ensures { λ r. ⌜ Put (now (text .entry)) at (now (bytes .entry)) (now (text .exit)) r ⌝ }
 {
-    let size = bytes.len();
-    if at > text.len() || text.len() - at < size {
-        return Err(ReportFault::ShortBuffer);
-    }
-    text[at..at + size].copy_from_slice(bytes);
-    Ok(at + size)
+    let next = at + bytes.len();
+    text[at..next].copy_from_slice(bytes);
+    next
 }
 
 // Writes a number and the byte that ends it at `at`, and gives the place after them.
-pub fn put_number(text: &mut [u8], at: usize, b: i64, end: u8) -> Result<usize, ReportFault> {
+pub fn put_number(text: &mut [u8], at: usize, b: i64, end: u8) -> usize
+    requires { ⌜ at + length (signed b) < length (now text) ⌝ }
+    ensures { λ r. ⌜ Put (now (text .entry)) at (piece b end) (now (text .exit)) r ⌝ }
+{
     let spelled = spell(b, end);
     put_bytes(text, at, &spelled.bytes[spelled.start..])
 }

@@ -1,4 +1,3 @@
-use borrow.Author.Needs.{needs}
 use native.Mathlib.Omega.{arith}
 use Rattle.report.proofs.Spelling.{spelling-more, spelling-all}
 use Rattle.report.proofs.numbers.spell_digits.Needs as need
