@@ -1,7 +1,7 @@
 -- Neighbouring numbers, one more at the end; the first trouble on lists one after another. Assumes nothing.
 use mathlib.Core.Path.{_≡_, refl, sym, ap, _∙_}
 use mathlib.Core.List.{List, [], _∷_, _++_}
-use Prim.Native.Nat.{ℕ, zero, suc, _+_, _*_, _≤_, _<_}
+use Prim.Native.Nat.{ℕ, zero, suc, _+_, _-_, _*_, _≤_, _<_}
 use native.Mathlib.Nat.{add-zero, add-assoc}
 use native.Mathlib.Numerals.{add-one}
 use native.Mathlib.Omega.{arith}
@@ -41,3 +41,20 @@ first-push f xs y = first-append f xs (y ∷ []) ∙ ap (or-else (first-in f xs)
 
 pub first-more : {Y : Type 0} (f : ℕ → Option Y) (a n : ℕ) → first-in f (counting a (n + 1)) ≡ or-else (first-in f (counting a n)) (f (a + n))
 first-more f a n = ap (first-in f) (counting-more a n) ∙ first-push f (counting a n) (a + n)
+
+-- one number more that is no trouble
+pub first-none : {Y : Type 0} (f : ℕ → Option Y) (a n : ℕ) → first-in f (counting a n) ≡ None → f (a + n) ≡ None → first-in f (counting a (n + 1)) ≡ None
+first-none f a n none here = first-more f a n ∙ ap (λ o. or-else o (f (a + n))) none ∙ here
+
+-- the first trouble of a front is that of the whole
+pub first-stays : {Y : Type 0} (f : ℕ → Option Y) (a i m : ℕ) (y : Y) → first-in f (counting a i) ≡ None → f (a + i) ≡ Some y → first-in f (counting a (i + 1 + m)) ≡ Some y
+first-stays f a i zero y none here = ap (λ n. first-in f (counting a n)) (add-zero (i + 1)) ∙ first-more f a i ∙ ap (λ o. or-else o (f (a + i))) none ∙ here
+first-stays f a i (suc m) y none here =
+    let e : i + 1 + suc m ≡ (i + 1 + m) + 1 = omega arith in
+    ap (λ n. first-in f (counting a n)) e ∙ first-more f a (i + 1 + m) ∙ ap (λ o. or-else o (f (a + (i + 1 + m)))) (first-stays f a i m y none here)
+
+-- the same where the whole has n
+pub first-found : {Y : Type 0} (f : ℕ → Option Y) (a i n : ℕ) (y : Y) → i < n → first-in f (counting a i) ≡ None → f (a + i) ≡ Some y → first-in f (counting a n) ≡ Some y
+first-found f a i n y h none here =
+    let e : n ≡ i + 1 + (n - (i + 1)) = omega arith in
+    ap (λ k. first-in f (counting a k)) e ∙ first-stays f a i (n - (i + 1)) y none here

@@ -6,10 +6,12 @@ ghost use Rattle.metering.specs.Energy.{source-refusal};
 use refusal::Refuse;
 
 mod energy;
+mod trial;
 
 pub use energy::days_energy;
 pub use energy::stretch_energy;
 pub use energy::unit_energy;
+pub use trial::try_stretch;
 
 // A unit: 1 to 16 neighbouring points, from the first on, of a store of at most 4,096 points.
 #[derive(Clone, Copy, PartialEq, Eq, Debug)]
