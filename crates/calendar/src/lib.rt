@@ -1,5 +1,6 @@
 // Days, their kinds and their trading intervals. Day 0 is Monday 4 January 2021.
 ghost use mathlib.Core.Path.{_≡_};
+ghost use Prim.Native.Nat.{_%_, _<_};
 ghost use Rattle.calendar.specs.Days.{intervals-of, hour-of, resolution-of, kind-on, window-start, window-length};
 
 #[derive(Clone, Copy, PartialEq, Eq, Debug)]
@@ -13,6 +14,13 @@ pub enum DayKind {
 pub enum Resolution {
     HalfHours,
     FiveMinutes,
+}
+
+// So many neighbouring intervals of a day, from the first on.
+#[derive(Clone, Copy, PartialEq, Eq, Debug)]
+pub struct Stretch {
+    pub first: u16,
+    pub count: u16,
 }
 
 impl Resolution {
@@ -47,18 +55,32 @@ impl Resolution {
         }
     }
 
-    // Where the adjustment window of a first interval starts: four hours before it.
-    pub fn window_start(self, first: u32) -> u32
-        ensures { λ r. ⌜ r ≡ window-start self first ⌝ }
+    // The interval of a place in its day.
+    pub fn interval_of(self, place: u32) -> u16
+        ensures is { λ r. ⌜ r ≡ place % intervals-of self ⌝ }
+        ensures within { λ r. ⌜ r < 288 ⌝ }
     {
-        first.saturating_sub(4 * self.hour())
+        match self {
+            Resolution::HalfHours => (place % 48) as u16,
+            Resolution::FiveMinutes => (place % 288) as u16,
+        }
     }
 
-    // The trading intervals in an adjustment window: three hours.
-    pub fn window_length(self) -> u32
-        ensures { λ r. ⌜ r ≡ window-length self ⌝ }
+    // The adjustment window of a first interval: three hours, from four hours before it on.
+    pub fn window(self, first: u16) -> Stretch
+        ensures first { λ r. ⌜ r .first ≡ window-start self first ⌝ }
+        ensures count { λ r. ⌜ r .count ≡ window-length self ⌝ }
     {
-        3 * self.hour()
+        match self {
+            Resolution::HalfHours => Stretch {
+                first: first.saturating_sub(8),
+                count: 6,
+            },
+            Resolution::FiveMinutes => Stretch {
+                first: first.saturating_sub(48),
+                count: 36,
+            },
+        }
     }
 }
 

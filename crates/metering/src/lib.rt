@@ -21,13 +21,6 @@ pub struct Unit {
     ghost fits: { (1 ≤ count) × (count ≤ 16) × (first + count ≤ 4096) },
 }
 
-// So many neighbouring intervals of a day.
-#[derive(Clone, Copy, PartialEq, Eq, Debug)]
-pub struct Stretch {
-    pub first: u16,
-    pub count: u16,
-}
-
 // Why a source cannot be used.
 #[derive(Clone, Copy, PartialEq, Eq, Debug)]
 pub enum SourceFault {

@@ -5,11 +5,11 @@ ghost use Rattle.metering.specs.Sums.{first-in};
 ghost use Rattle.metering.specs.Energy.{missing-at, trouble-at, places};
 ghost use Rattle.metering.specs.Trial.{Tried};
 use crate::SourceFault;
-use crate::Stretch;
 use crate::Unit;
 use crate::energy::place_of;
 use crate::energy::unit_energy;
 use calendar::Resolution;
+use calendar::Stretch;
 use store::Store;
 
 // The most energy of a unit in one interval.

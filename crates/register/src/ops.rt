@@ -86,6 +86,7 @@ impl<'a, R: Record> Register<'a, R> {
         ensures none { λ r. ⌜ held r ≡ [] ⌝ }
         ensures room { λ r. ⌜ capacity r ≡ length (now (slots .entry)) ⌝ }
         ensures order { λ r. ⌜ Rising keyed (held r) ⌝ }
+        ensures untouched { λ r. ⌜ now (r .slots) ≡ now (slots .entry) ⌝ }
     {
         Register { slots, used: 0 }
     }
