@@ -1,7 +1,7 @@
 // Days, their kinds and their trading intervals. Day 0 is Monday 4 January 2021.
 ghost use mathlib.Core.Path.{_≡_};
-ghost use Prim.Native.Nat.{_%_, _<_};
-ghost use Rattle.calendar.specs.Days.{intervals-of, hour-of, resolution-of, kind-on, window-start, window-length};
+ghost use Prim.Native.Nat.{_%_, _<_, _≤_};
+ghost use Rattle.calendar.specs.Days.{intervals-of, hour-of, resolution-of, kind-on, place-of, window-start, window-length};
 
 #[derive(Clone, Copy, PartialEq, Eq, Debug)]
 pub enum DayKind {
@@ -53,6 +53,14 @@ impl Resolution {
             Resolution::HalfHours => 2,
             Resolution::FiveMinutes => 12,
         }
+    }
+
+    // The place of an interval of a day.
+    pub fn place_of(self, day: u16, interval: u16) -> u32
+        ensures is { λ r. ⌜ r ≡ place-of (intervals-of self) day interval ⌝ }
+        ensures most { λ r. ⌜ r ≤ 18939615 ⌝ }
+    {
+        u32::from(day) * self.intervals() + u32::from(interval)
     }
 
     // The interval of a place in its day.

@@ -46,14 +46,6 @@ impl Unit {
     }
 }
 
-// The place of an interval of a day.
-pub(crate) fn place_of(resolution: Resolution, day: u16, interval: u16) -> u32
-    ensures is { λ r. ⌜ r ≡ day * intervals-of resolution + interval ⌝ }
-    ensures most { λ r. ⌜ r ≤ 18939615 ⌝ }
-{
-    u32::from(day) * resolution.intervals() + u32::from(interval)
-}
-
 // The unit's energy at a place: the sum over its points.
 pub fn unit_energy<S: Store>(store: &S, unit: Unit, place: u32) -> u64
     ensures is { λ r. ⌜ r ≡ energy-at (S·Store .meaning (now (store .entry)) .at) (unit .first) (unit .count) place ⌝ }
@@ -89,7 +81,7 @@ pub fn stretch_energy<S: Store>(
     ensures is { λ r. ⌜ r ≡ sumBy (energy-at (S·Store .meaning (now (store .entry)) .at) (unit .first) (unit .count)) (places (intervals-of resolution) day (stretch .first) (stretch .count)) ⌝ }
     ensures most { λ r. ⌜ r ≤ 1048560 * 65535 ⌝ }
 {
-    let start = place_of(resolution, day, stretch.first);
+    let start = resolution.place_of(day, stretch.first);
     let mut sum = 0;
     for i in 0..stretch.count {
         sum += unit_energy(store, unit, start + u32::from(i));

@@ -6,7 +6,6 @@ ghost use Rattle.metering.specs.Energy.{missing-at, trouble-at, places};
 ghost use Rattle.metering.specs.Trial.{Tried};
 use crate::SourceFault;
 use crate::Unit;
-use crate::energy::place_of;
 use crate::energy::unit_energy;
 use calendar::Resolution;
 use calendar::Stretch;
@@ -49,7 +48,7 @@ pub fn try_stretch<S: Store>(
 ) -> Result<(), SourceFault>
     ensures { λ r. ⌜ Tried r (first-in (trouble-at (S·Store .meaning (now (store .entry)) .at) (unit .first) (unit .count)) (places (intervals-of resolution) day (stretch .first) (stretch .count))) ⌝ }
 {
-    let start = place_of(resolution, day, stretch.first);
+    let start = resolution.place_of(day, stretch.first);
     for i in 0..stretch.count {
         try_place(store, unit, start + u32::from(i))?;
     }

@@ -1,16 +1,19 @@
 // Settling an event: a book of marks, a unit of neighbouring points, and the lines that the baseline and the meters give.
-// This file has the types; `marking` has a book's calls, `energy` what a unit used, `trial` the search for a source that
-// cannot be used, and `settling` the settlement itself.
+// This file has the types; `marking` has a book's calls, and `settling` the settlement itself.
 ghost use mathlib.Core.Path.{_≡_};
 ghost use Rattle.marks.specs.Marked.{HolidaysRise, ExclusionsRise, EventsRise};
+ghost use Rattle.settlement.specs.declared.SettleFault.the-variants.{Source};
 ghost use Rattle.settlement.specs.Faults.{settle-refusal};
 use marks::Marks;
+use metering::SourceFault;
+use metering::SourceFaultDebug;
+use metering::SourceFaultEq;
+use metering::SourceFaultPartialEq;
+use metering::SourceRefuse;
 use refusal::Refuse;
 
-mod energy;
 mod marking;
 mod settling;
-mod trial;
 
 pub use settling::settle;
 pub use settling::settle_numbered;
@@ -24,9 +27,9 @@ pub struct Book<'a> {
     ghost events_rise: { EventsRise marks },
 }
 
-// A unit: so many neighbouring points from the first on.
+// The points that are settled together: so many neighbours from the first on.
 #[derive(Clone, Copy, PartialEq, Eq, Debug)]
-pub struct Unit {
+pub struct Points {
     pub first: u32,
     pub count: u32,
 }
@@ -65,12 +68,18 @@ pub enum SettleFault {
     NotServed,
     // fewer days than the methodology's minimum were selected for this day
     TooFewDays { day: u16 },
-    // a source has no reading
-    Missing { point: u32, place: u32 },
-    // the unit's energy is above 5,000 at a source
-    AboveLimit { place: u32 },
     // the list has fewer lines than the event has intervals
     ShortList,
+    // a source cannot be used
+    Source(SourceFault),
+}
+
+pub impl From<SourceFault> for SettleFault as SettleFromSource {
+    ghost converts = { λ e r. r ≡ Source e };
+
+    fn from(fault: SourceFault) -> SettleFault {
+        SettleFault::Source(fault)
+    }
 }
 
 pub impl Refuse for SettleFault as SettleRefuse {
@@ -83,9 +92,8 @@ pub impl Refuse for SettleFault as SettleRefuse {
             SettleFault::NoEvent => 11,
             SettleFault::NotServed => 13,
             SettleFault::TooFewDays { .. } => 14,
-            SettleFault::Missing { .. } => 15,
-            SettleFault::AboveLimit { .. } => 16,
             SettleFault::ShortList => 17,
+            SettleFault::Source(fault) => fault.number(),
         }
     }
 }

@@ -1,23 +1,24 @@
 // Settling an event by a methodology: the checks in their order, the trial of every source, then the lines.
 ghost use mathlib.Core.Path.{_≡_};
-ghost use mathlib.Core.Bool.{true};
-ghost use Prim.Native.Nat.{_≤_};
+ghost use Prim.Native.Nat.{_*_, _≤_};
 ghost use lib.ListN.{length};
-ghost use Rattle.std.specs.Vec.{made};
 ghost use lib.IntN.{pos, negsuc};
 ghost use lib.Signed.{_≤ℤ_};
+ghost use Rattle.std.specs.Vec.{made};
 use crate::Book;
 use crate::Line;
+use crate::Points;
 use crate::SettleFault;
+use crate::SettleFromSource;
 use crate::Settlement;
-use crate::Unit;
-use crate::energy::MOST_POINTS;
-use crate::energy::days_energy;
-use crate::energy::run_energy;
-use crate::energy::unit_energy;
-use crate::trial::try_run;
+use calendar::Resolution;
+use calendar::Stretch;
 use choice::Selected;
-use marks::Event;
+use metering::Unit;
+use metering::days_energy;
+use metering::stretch_energy;
+use metering::try_stretch;
+use metering::unit_energy;
 use method::catalogue::numbered;
 use method::energies::Energies;
 use method::methodology::Methodology;
@@ -54,28 +55,21 @@ impl Settlement {
     }
 }
 
-// What is settled: the event, its day, the selected days, and where the adjustment window starts in a day.
+// What is settled: a day, its selected days, and the stretches of a day that are the adjustment window and the event.
 #[derive(Clone, Copy)]
 struct Plan {
-    event: Event,
+    resolution: Resolution,
     day: u16,
     selected: Selected,
-    intervals: u32,
-    window: u32,
-    width: u32,
-    ghost sizes: { (intervals ≤ 288) × (width ≤ 36) },
+    window: Stretch,
+    event: Stretch,
 }
 
-// The energies that all lines share: those of the window over the selected days, and on the event's day.
+// The unit's energy in the window: over the selected days, and on the event's day.
 #[derive(Clone, Copy)]
 struct Adjustment {
     past: u64,
     present: u64,
-}
-
-// The event's first interval.
-fn first_interval(plan: &Plan) -> u32 {
-    plan.event.first % plan.intervals.max(1)
 }
 
 // The event, its day served, and enough selected days.
@@ -88,6 +82,9 @@ fn plan_of<M: Methodology>(book: &Book, method: &M, first: u32) -> Result<Plan, 
     ) else {
         return Err(SettleFault::NoEvent);
     };
+    let Ok(count) = u16::try_from(event.count) else {
+        return Err(SettleFault::NoEvent);
+    };
     let kind = marks.kind_of_day(day);
     if !method.serves(kind) {
         return Err(SettleFault::NotServed);
@@ -97,104 +94,84 @@ fn plan_of<M: Methodology>(book: &Book, method: &M, first: u32) -> Result<Plan, 
         return Err(SettleFault::TooFewDays { day });
     }
     let resolution = marks.resolution();
-    let intervals = resolution.intervals();
-    let window = resolution.window_start(lead.first % intervals);
-    let width = resolution.window_length();
+    let window = resolution.window(resolution.interval_of(lead.first));
+    let event = Stretch {
+        first: resolution.interval_of(first),
+        count,
+    };
     Ok(Plan {
-        event,
+        resolution,
         day,
         selected,
-        intervals,
         window,
-        width,
+        event,
     })
 }
 
 // The sources of one day: the window, then the event's intervals.
-fn try_day<S: Store>(store: &S, unit: Unit, plan: &Plan, day: u16) -> Result<(), SettleFault>
-    requires { ⌜ unit .count ≤ 16 ⌝ }
-{
-    let start = u32::from(day) * plan.intervals;
-    try_run(store, unit, start.saturating_add(plan.window), plan.width)?;
-    try_run(
-        store,
-        unit,
-        start.saturating_add(first_interval(plan)),
-        plan.event.count,
-    )
+fn try_day<S: Store>(store: &S, unit: Unit, plan: &Plan, day: u16) -> Result<(), SettleFault> {
+    try_stretch(store, unit, plan.resolution, day, plan.window)?;
+    try_stretch(store, unit, plan.resolution, day, plan.event)?;
+    Ok(())
 }
 
 // All sources: the selected days, the latest first, then the event's day.
-fn try_sources<S: Store>(store: &S, unit: Unit, plan: &Plan) -> Result<(), SettleFault>
-    requires { ⌜ unit .count ≤ 16 ⌝ }
-{
+fn try_sources<S: Store>(store: &S, unit: Unit, plan: &Plan) -> Result<(), SettleFault> {
     for day in plan.selected.days() {
         try_day(store, unit, plan, *day)?;
     }
     try_day(store, unit, plan, plan.day)
 }
 
-// The energies of the window, over the selected days and on the event's day.
-fn adjust<S: Store>(store: &S, unit: Unit, plan: &Plan) -> Adjustment
-    requires { ⌜ unit .count ≤ 16 ⌝ }
-{
-    let past = days_energy(
-        store,
-        unit,
-        plan.selected.days(),
-        plan.intervals,
-        plan.window,
-        plan.width,
-    );
-    let start = (u32::from(plan.day) * plan.intervals).saturating_add(plan.window);
-    let present = run_energy(store, unit, start, plan.width);
+// The energies of the window.
+fn adjust<S: Store>(store: &S, unit: Unit, plan: &Plan) -> Adjustment {
+    let past = days_energy(store, unit, plan.resolution, &plan.selected, plan.window);
+    let present = stretch_energy(store, unit, plan.resolution, plan.day, plan.window);
     Adjustment { past, present }
 }
 
-// The baseline from the energies; 0 where these are beyond what a unit may use, which no settled source is.
+// The baseline of a line from its energy over the selected days; 0 where the energies are beyond what a unit may use,
+// which no source that passed its trial is.
 fn baseline_of<M: Methodology>(method: &M, plan: &Plan, past: u64, adjustment: Adjustment) -> i32
     ensures low { λ r. ⌜ negsuc 4999 ≤ℤ r ⌝ }
     ensures high { λ r. ⌜ r ≤ℤ pos 10000 ⌝ }
 {
+    let days = plan.selected.len() as u16;
     match Energies::new(
         past,
         adjustment.past,
         adjustment.present,
-        plan.selected.len() as u16,
-        plan.width as u16,
+        days,
+        plan.window.count,
     ) {
         Some(energies) => method.baseline(&energies),
         None => 0,
     }
 }
 
-// The line of an interval of the event.
+// The line of an interval of the event's day.
 fn line_at<S: Store, M: Methodology>(
     store: &S,
     unit: Unit,
     plan: &Plan,
     method: &M,
     adjustment: Adjustment,
-    interval: u32,
+    interval: u16,
 ) -> Line
-    requires { ⌜ unit .count ≤ 16 ⌝ }
     ensures low { λ r. ⌜ negsuc 1999999 ≤ℤ r .reduction ⌝ }
     ensures high { λ r. ⌜ r .reduction ≤ℤ pos 10000 ⌝ }
 {
-    let past = days_energy(
-        store,
-        unit,
-        plan.selected.days(),
-        plan.intervals,
-        interval,
-        1,
-    );
+    let stretch = Stretch {
+        first: interval,
+        count: 1,
+    };
+    let past = days_energy(store, unit, plan.resolution, &plan.selected, stretch);
     let baseline = baseline_of(method, plan, past, adjustment);
-    let place = (u32::from(plan.day) * plan.intervals).saturating_add(interval);
+    let place = plan.resolution.place_of(plan.day, interval);
     let metered = unit_energy(store, unit, place) as u32;
     Line {
         day: u32::from(plan.day),
-        interval,
+        interval: u32::from(interval),
         days: plan.selected.len() as u32,
         baseline,
         metered,
@@ -210,11 +187,10 @@ fn fill<S: Store, M: Methodology>(
     method: &M,
     lines: &mut [Line],
 ) -> i64
-    requires unit { ⌜ unit .count ≤ 16 ⌝ }
-    requires room { ⌜ now plan .event .count ≤ length (now lines) ⌝ }
+    requires { ⌜ now plan .event .count ≤ length (now lines) ⌝ }
 {
     let adjustment = adjust(store, unit, plan);
-    let first = first_interval(plan);
+    let first = plan.event.first;
     let mut sum = 0;
     for i in 0..plan.event.count {
         let line = line_at(
@@ -231,40 +207,30 @@ fn fill<S: Store, M: Methodology>(
     sum
 }
 
-// A unit has 1 to 16 points of the store.
-fn fits<S: Store>(store: &S, unit: Unit) -> bool
-    ensures { λ r. ⌜ (r ≡ true → unit .count ≤ 16) ⌝ }
-{
-    if unit.count < 1 || unit.count > MOST_POINTS {
-        return false;
-    }
-    unit.first <= store.points() && unit.count <= store.points() - unit.first
-}
-
 // Settles the event with this first place for a unit. It fills the first lines of the list, one an interval, or declines
 // and leaves the list as it was. The causes are tried in the order 18, 11, 13, 14, 17, then the sources.
 pub fn settle<S: Store, M: Methodology>(
     store: &S,
     book: &Book,
-    unit: Unit,
+    points: Points,
     method: &M,
     first: u32,
     lines: &mut [Line],
 ) -> Result<Settlement, SettleFault>
     ensures { λ r. ⌜ made r (λ s. s .count ≤ length (now (lines .entry))) ⌝ }
 {
-    if !fits(store, unit) {
+    let Some(unit) = Unit::of(store, points.first, points.count) else {
         return Err(SettleFault::Unit);
-    }
+    };
     let plan = plan_of(book, method, first)?;
-    if lines.len() < plan.event.count as usize {
+    if lines.len() < usize::from(plan.event.count) {
         return Err(SettleFault::ShortList);
     }
     try_sources(store, unit, &plan)?;
     let sum = fill(store, unit, &plan, method, lines);
     Ok(Settlement {
         first,
-        count: plan.event.count,
+        count: u32::from(plan.event.count),
         days: plan.selected.len() as u32,
         sum,
     })
@@ -274,18 +240,18 @@ pub fn settle<S: Store, M: Methodology>(
 pub fn settle_numbered<S: Store>(
     store: &S,
     book: &Book,
-    unit: Unit,
+    points: Points,
     number: u8,
     first: u32,
     lines: &mut [Line],
 ) -> Result<Settlement, SettleFault>
     ensures { λ r. ⌜ made r (λ s. s .count ≤ length (now (lines .entry))) ⌝ }
 {
-    if !fits(store, unit) {
+    if Unit::of(store, points.first, points.count).is_none() {
         return Err(SettleFault::Unit);
     }
     match numbered(number) {
-        Ok(method) => settle(store, book, unit, &method, first, lines),
+        Ok(method) => settle(store, book, points, &method, first, lines),
         Err(_) => Err(SettleFault::Methodology),
     }
 }
