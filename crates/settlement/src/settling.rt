@@ -5,6 +5,11 @@ ghost use lib.ListN.{length};
 ghost use lib.IntN.{pos, negsuc};
 ghost use lib.Signed.{_≤ℤ_};
 ghost use Rattle.std.specs.Vec.{made};
+ghost use Rattle.metering.specs.Energy.{trouble-at};
+ghost use Rattle.metering.specs.Sums.{first-in};
+ghost use Rattle.metering.specs.Trial.{Tried};
+ghost use Rattle.settlement.specs.Lines.{day-sources, trouble, V-of, W-of, A-of, baseline-at, line-at};
+ghost use Rattle.settlement.specs.Plans.{terms-of};
 use crate::Book;
 use crate::Line;
 use crate::Points;
@@ -14,6 +19,7 @@ use crate::Settlement;
 use calendar::Resolution;
 use calendar::Stretch;
 use choice::Selected;
+use metering::SourceFault;
 use metering::Unit;
 use metering::days_energy;
 use metering::stretch_energy;
@@ -109,14 +115,17 @@ fn plan_of<M: Methodology>(book: &Book, method: &M, first: u32) -> Result<Plan, 
 }
 
 // The sources of one day: the window, then the event's intervals.
-fn try_day<S: Store>(store: &S, unit: Unit, plan: &Plan, day: u16) -> Result<(), SettleFault> {
+fn try_day<S: Store>(store: &S, unit: Unit, plan: &Plan, day: u16) -> Result<(), SourceFault>
+    ensures { λ r. ⌜ Tried r (first-in (trouble-at (S·Store .meaning (now (store .entry)) .at) (unit .first) (unit .count)) (day-sources (terms-of (now (plan .entry))) day)) ⌝ }
+{
     try_stretch(store, unit, plan.resolution, day, plan.window)?;
-    try_stretch(store, unit, plan.resolution, day, plan.event)?;
-    Ok(())
+    try_stretch(store, unit, plan.resolution, day, plan.event)
 }
 
 // All sources: the selected days, the latest first, then the event's day.
-fn try_sources<S: Store>(store: &S, unit: Unit, plan: &Plan) -> Result<(), SettleFault> {
+fn try_sources<S: Store>(store: &S, unit: Unit, plan: &Plan) -> Result<(), SourceFault>
+    ensures { λ r. ⌜ Tried r (trouble (S·Store .meaning (now (store .entry)) .at) (unit .first) (unit .count) (terms-of (now (plan .entry)))) ⌝ }
+{
     for day in plan.selected.days() {
         try_day(store, unit, plan, *day)?;
     }
@@ -124,7 +133,10 @@ fn try_sources<S: Store>(store: &S, unit: Unit, plan: &Plan) -> Result<(), Settl
 }
 
 // The energies of the window.
-fn adjust<S: Store>(store: &S, unit: Unit, plan: &Plan) -> Adjustment {
+fn adjust<S: Store>(store: &S, unit: Unit, plan: &Plan) -> Adjustment
+    ensures past { λ r. ⌜ r .past ≡ W-of (S·Store .meaning (now (store .entry)) .at) (unit .first) (unit .count) (terms-of (now (plan .entry))) ⌝ }
+    ensures present { λ r. ⌜ r .present ≡ A-of (S·Store .meaning (now (store .entry)) .at) (unit .first) (unit .count) (terms-of (now (plan .entry))) ⌝ }
+{
     let past = days_energy(store, unit, plan.resolution, &plan.selected, plan.window);
     let present = stretch_energy(store, unit, plan.resolution, plan.day, plan.window);
     Adjustment { past, present }
