@@ -1,0 +1,3 @@
+pub mod DaySets
+pub mod EventLists
+pub mod EventMarks

@@ -1,1 +1,5 @@
 pub mod Sources
+pub mod Fills
+pub mod Limits
+pub mod Standing
+pub mod Planning

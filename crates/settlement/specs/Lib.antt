@@ -1,3 +1,6 @@
 pub mod Faults
 pub mod Lines
 pub mod Plans
+pub mod Books
+pub mod Orders
+pub mod Settles

@@ -8,6 +8,7 @@ use Rattle.std.specs.Iters.{counting, folded}
 use Rattle.std.specs.shelf.Lists.{sumBy, joined}
 use Rattle.std.specs.declared.option.Option.{Option}
 use Rattle.store.specs.Meaning.{Readings}
+use Rattle.method.specs.Energy.{Sound}
 use Rattle.metering.specs.Sums.{first-in}
 use Rattle.metering.specs.Energy.{energy-at, trouble-at, places}
 use Rattle.metering.specs.declared.SourceFault.{SourceFault}
@@ -60,6 +61,10 @@ module _ (at : Readings) (u c : ℕ) where
 
   abbrev pub metered : Terms → ℕ → ℕ
   metered x i = energy-at at u c (x .day * x .intervals + i)
+
+  -- the energies that a line's baseline is asked for are within their limits
+  abbrev pub Usable : Terms → ℕ → Type 0
+  Usable x i = Sound (V-of x i) (W-of x) (A-of x) (chosen-days x) (x .width)
 
   module _ (baseline : ℕ → ℕ → ℕ → ℕ → ℕ → ℤ) where
     abbrev pub baseline-at : Terms → ℕ → ℤ

@@ -1,7 +1,7 @@
 -- The plan of a settlement, as its terms. Assumes nothing.
 use Rattle.calendar.specs.Days.{intervals-of}
 use Rattle.choice.specs.Choice.{days-of}
-use Rattle.settlement.specs.declared.settling.Plan.{Plan}
+use Rattle.settlement.specs.declared.planned.Plan.{Plan}
 use Rattle.settlement.specs.Lines.{Terms}
 
 abbrev pub terms-of : Plan → Terms

@@ -1,7 +1,8 @@
 // Settling an event: a book of marks, a unit of neighbouring points, and the lines that the baseline and the meters give.
 // This file has the types; `marking` has a book's calls, and `settling` the settlement itself.
 ghost use mathlib.Core.Path.{_≡_};
-ghost use Rattle.marks.specs.Marked.{HolidaysRise, ExclusionsRise, EventsRise};
+ghost use Rattle.marks.specs.Marked.{DaysFit, HolidaysRise, ExclusionsRise, EventsRise, EventsApart};
+ghost use Rattle.settlement.specs.Orders.{EventsInDays, EventsInTime};
 ghost use Rattle.settlement.specs.declared.SettleFault.the-variants.{Source};
 ghost use Rattle.settlement.specs.Faults.{settle-refusal};
 use marks::Marks;
@@ -13,6 +14,7 @@ use metering::SourceRefuse;
 use refusal::Refuse;
 
 mod marking;
+mod planned;
 mod settling;
 
 pub use settling::settle;
@@ -22,9 +24,13 @@ pub use settling::settle_numbered;
 #[derive(Drop)]
 pub struct Book<'a> {
     marks: Marks<'a>,
+    ghost fit: { DaysFit marks },
     ghost holidays_rise: { HolidaysRise marks },
     ghost exclusions_rise: { ExclusionsRise marks },
     ghost events_rise: { EventsRise marks },
+    ghost in_days: { EventsInDays marks },
+    ghost in_time: { EventsInTime marks },
+    ghost apart: { EventsApart marks },
 }
 
 // The points that are settled together: so many neighbours from the first on.

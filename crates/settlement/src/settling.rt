@@ -1,24 +1,32 @@
 // Settling an event by a methodology: the checks in their order, the trial of every source, then the lines.
 ghost use mathlib.Core.Path.{_≡_};
-ghost use Prim.Native.Nat.{_*_, _≤_};
-ghost use lib.ListN.{length};
+ghost use mathlib.Core.Bool.{true};
+ghost use mathlib.Core.List.{_++_};
+ghost use Prim.Native.Nat.{ℕ, _+_, _*_, _<_, _≤_};
+ghost use lib.ListN.{length, drop};
 ghost use lib.IntN.{pos, negsuc};
 ghost use lib.Signed.{_≤ℤ_};
 ghost use Rattle.std.specs.Vec.{made};
+ghost use Rattle.method.specs.Energy.{Sound};
 ghost use Rattle.metering.specs.Energy.{trouble-at};
 ghost use Rattle.metering.specs.Sums.{first-in};
 ghost use Rattle.metering.specs.Trial.{Tried};
-ghost use Rattle.settlement.specs.Lines.{day-sources, trouble, V-of, W-of, A-of, baseline-at, line-at};
+ghost use Rattle.settlement.specs.Lines.{day-sources, trouble, chosen-days, W-of, A-of, line-at, lines-of, reductions, Usable};
+ghost use Rattle.marks.specs.Marked.{Orderly, marking, lead-of};
+ghost use Rattle.std.specs.Options.{isSome};
+ghost use Rattle.settlement.specs.Books.{book-marking};
 ghost use Rattle.settlement.specs.Plans.{terms-of};
+ghost use Rattle.settlement.specs.Settles.{Planned, Settled, SettledBy, event-in, lead-place};
 use crate::Book;
 use crate::Line;
 use crate::Points;
 use crate::SettleFault;
 use crate::SettleFromSource;
 use crate::Settlement;
-use calendar::Resolution;
+use crate::planned::Adjustment;
+use crate::planned::Plan;
 use calendar::Stretch;
-use choice::Selected;
+use marks::Marks;
 use metering::SourceFault;
 use metering::Unit;
 use metering::days_energy;
@@ -30,6 +38,9 @@ use method::energies::Energies;
 use method::methodology::Methodology;
 use method::numbered::NumberedMethodology;
 use store::Store;
+
+// The most intervals in a day.
+const MOST_INTERVALS: u32 = 288;
 
 impl Settlement {
     // The first place of the event.
@@ -61,49 +72,33 @@ impl Settlement {
     }
 }
 
-// What is settled: a day, its selected days, and the stretches of a day that are the adjustment window and the event.
-#[derive(Clone, Copy)]
-struct Plan {
-    resolution: Resolution,
-    day: u16,
-    selected: Selected,
-    window: Stretch,
-    event: Stretch,
-}
-
-// The unit's energy in the window: over the selected days, and on the event's day.
-#[derive(Clone, Copy)]
-struct Adjustment {
-    past: u64,
-    present: u64,
-}
-
 // The event, its day served, and enough selected days.
-fn plan_of<M: Methodology>(book: &Book, method: &M, first: u32) -> Result<Plan, SettleFault> {
+fn plan_of<M: Methodology>(book: &Book, method: &M, first: u32) -> Result<Plan, SettleFault>
+    ensures { λ r. ⌜ Planned (M·Methodology .meaning (now (method .entry))) (book-marking (now (book .entry))) first r ⌝ }
+{
     let marks = book.marks();
-    let (Some(day), Some(event), Some(lead)) = (
-        marks.day_of(first),
-        marks.event_at(first),
-        marks.lead(first),
-    ) else {
+    let Some(event) = marks.event_at(first) else {
         return Err(SettleFault::NoEvent);
     };
-    let Ok(count) = u16::try_from(event.count) else {
+    let Some(day) = marks.day_of(first) else {
         return Err(SettleFault::NoEvent);
     };
+    if event.count > MOST_INTERVALS {
+        return Err(SettleFault::NoEvent);
+    }
     let kind = marks.kind_of_day(day);
     if !method.serves(kind) {
         return Err(SettleFault::NotServed);
     }
     let selected = choice::select(marks, method, day);
-    if selected.len() < usize::from(method.minimum(kind)) {
+    if selected.days().len() < usize::from(method.minimum(kind)) {
         return Err(SettleFault::TooFewDays { day });
     }
     let resolution = marks.resolution();
-    let window = resolution.window(resolution.interval_of(lead.first));
+    let window = resolution.window(resolution.interval_of(lead_place(marks, first)));
     let event = Stretch {
         first: resolution.interval_of(first),
-        count,
+        count: event.count as u16,
     };
     Ok(Plan {
         resolution,
@@ -112,6 +107,16 @@ fn plan_of<M: Methodology>(book: &Book, method: &M, first: u32) -> Result<Plan, 
         window,
         event,
     })
+}
+
+// The first place of an event's lead.
+fn lead_place(marks: &Marks, first: u32) -> u32
+    ensures { λ r. ⌜ (Orderly (now (marks .entry)) → isSome (event-in (marking (now (marks .entry))) first) ≡ true → r ≡ lead-place (lead-of (now (marks .entry) .resolution) (marking (now (marks .entry)) .events) first) first) ⌝ }
+{
+    match marks.lead(first) {
+        Some(lead) => lead.first,
+        None => first,
+    }
 }
 
 // The sources of one day: the window, then the event's intervals.
@@ -145,10 +150,11 @@ fn adjust<S: Store>(store: &S, unit: Unit, plan: &Plan) -> Adjustment
 // The baseline of a line from its energy over the selected days; 0 where the energies are beyond what a unit may use,
 // which no source that passed its trial is.
 fn baseline_of<M: Methodology>(method: &M, plan: &Plan, past: u64, adjustment: Adjustment) -> i32
+    ensures is { λ r. ⌜ (Sound past (adjustment .past) (adjustment .present) (chosen-days (terms-of (now (plan .entry)))) (now (plan .entry) .window .count) → r ≡ M·Methodology .meaning (now (method .entry)) .baseline past (adjustment .past) (adjustment .present) (chosen-days (terms-of (now (plan .entry)))) (now (plan .entry) .window .count)) ⌝ }
     ensures low { λ r. ⌜ negsuc 4999 ≤ℤ r ⌝ }
     ensures high { λ r. ⌜ r ≤ℤ pos 10000 ⌝ }
 {
-    let days = plan.selected.len() as u16;
+    let days = plan.selected.days().len() as u16;
     match Energies::new(
         past,
         adjustment.past,
@@ -170,6 +176,10 @@ fn line_at<S: Store, M: Methodology>(
     adjustment: Adjustment,
     interval: u16,
 ) -> Line
+    requires past { ⌜ adjustment .past ≡ W-of (S·Store .meaning (now store) .at) (unit .first) (unit .count) (terms-of (now plan)) ⌝ }
+    requires present { ⌜ adjustment .present ≡ A-of (S·Store .meaning (now store) .at) (unit .first) (unit .count) (terms-of (now plan)) ⌝ }
+    requires usable { ⌜ Usable (S·Store .meaning (now store) .at) (unit .first) (unit .count) (terms-of (now plan)) interval ⌝ }
+    ensures is { λ r. ⌜ r ≡ line-at (S·Store .meaning (now (store .entry)) .at) (unit .first) (unit .count) (M·Methodology .meaning (now (method .entry)) .baseline) (terms-of (now (plan .entry))) interval ⌝ }
     ensures low { λ r. ⌜ negsuc 1999999 ≤ℤ r .reduction ⌝ }
     ensures high { λ r. ⌜ r .reduction ≤ℤ pos 10000 ⌝ }
 {
@@ -184,7 +194,7 @@ fn line_at<S: Store, M: Methodology>(
     Line {
         day: u32::from(plan.day),
         interval: u32::from(interval),
-        days: plan.selected.len() as u32,
+        days: plan.selected.days().len() as u32,
         baseline,
         metered,
         reduction: baseline - metered as i32,
@@ -199,20 +209,16 @@ fn fill<S: Store, M: Methodology>(
     method: &M,
     lines: &mut [Line],
 ) -> i64
-    requires { ⌜ now plan .event .count ≤ length (now lines) ⌝ }
+    requires room { ⌜ now plan .event .count ≤ length (now lines) ⌝ }
+    requires usable { ⌜ ((i : ℕ) → i < now plan .event .count → Usable (S·Store .meaning (now store) .at) (unit .first) (unit .count) (terms-of (now plan)) (now plan .event .first + i)) ⌝ }
+    ensures lines { λ _. ⌜ now (lines .exit) ≡ lines-of (S·Store .meaning (now (store .entry)) .at) (unit .first) (unit .count) (M·Methodology .meaning (now (method .entry)) .baseline) (terms-of (now (plan .entry))) ++ drop (now (plan .entry) .event .count) (now (lines .entry)) ⌝ }
+    ensures sum { λ r. ⌜ r ≡ reductions (lines-of (S·Store .meaning (now (store .entry)) .at) (unit .first) (unit .count) (M·Methodology .meaning (now (method .entry)) .baseline) (terms-of (now (plan .entry)))) ⌝ }
 {
     let adjustment = adjust(store, unit, plan);
     let first = plan.event.first;
     let mut sum = 0;
     for i in 0..plan.event.count {
-        let line = line_at(
-            store,
-            unit,
-            plan,
-            method,
-            adjustment,
-            first.saturating_add(i),
-        );
+        let line = line_at(store, unit, plan, method, adjustment, first + i);
         lines[i as usize] = line;
         sum += i64::from(line.reduction);
     }
@@ -229,7 +235,8 @@ pub fn settle<S: Store, M: Methodology>(
     first: u32,
     lines: &mut [Line],
 ) -> Result<Settlement, SettleFault>
-    ensures { λ r. ⌜ made r (λ s. s .count ≤ length (now (lines .entry))) ⌝ }
+    ensures settled { λ r. ⌜ Settled (M·Methodology .meaning (now (method .entry))) (book-marking (now (book .entry))) (S·Store .meaning (now (store .entry)) .points) (S·Store .meaning (now (store .entry)) .at) (points .first) (points .count) first (now (lines .entry)) (now (lines .exit)) r ⌝ }
+    ensures fits { λ r. ⌜ made r (λ s. s .count ≤ length (now (lines .entry))) ⌝ }
 {
     let Some(unit) = Unit::of(store, points.first, points.count) else {
         return Err(SettleFault::Unit);
@@ -257,7 +264,8 @@ pub fn settle_numbered<S: Store>(
     first: u32,
     lines: &mut [Line],
 ) -> Result<Settlement, SettleFault>
-    ensures { λ r. ⌜ made r (λ s. s .count ≤ length (now (lines .entry))) ⌝ }
+    ensures settled { λ r. ⌜ SettledBy number (book-marking (now (book .entry))) (S·Store .meaning (now (store .entry)) .points) (S·Store .meaning (now (store .entry)) .at) (points .first) (points .count) first (now (lines .entry)) (now (lines .exit)) r ⌝ }
+    ensures fits { λ r. ⌜ made r (λ s. s .count ≤ length (now (lines .entry))) ⌝ }
 {
     if Unit::of(store, points.first, points.count).is_none() {
         return Err(SettleFault::Unit);

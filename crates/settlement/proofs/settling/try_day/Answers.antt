@@ -16,7 +16,7 @@ returns-in-Break-try-stretch g c =
     let t = intervals-of (p .resolution) in
     let e = c .in-Break-try-stretch .field-0 .0 in
     tried-on (c .from-residual .result) e _ (c .from-residual .ensures .1)
-      (first-front f (places t (c .args .day) (p .window .first) (p .window .count)) (places t (c .args .day) (p .event .first) (p .event .count)) e (c .in-Break-try-stretch .ensures tt))
+    (first-front f (places t (c .args .day) (p .window .first) (p .window .count)) (places t (c .args .day) (p .event .first) (p .event .count)) e (c .in-Break-try-stretch .ensures tt))
 
 pub returns : need.returns
 returns g c =

@@ -28,7 +28,7 @@ returns-in-Break-try-day g c =
     let lt : c .loop-day .day-index < length days = omega arith in
     let w : first-in F (days ++ (x .day ∷ [])) ≡ Some e = first-at F days (x .day ∷ []) (c .loop-day .day-index) 0 e lt (c .loop-day .inv) (c .in-Break-try-day .ensures tt) in
     tried-on (c .from-residual .result) e _ (c .from-residual .ensures .1)
-      (first-joined f (day-sources x) (x .days ++ (x .day ∷ [])) ∙ ap (λ ds. first-in F (ds ++ (x .day ∷ []))) (sym (c .days-day-items .ensures .is)) ∙ w)
+    (first-joined f (day-sources x) (x .days ++ (x .day ∷ [])) ∙ ap (λ ds. first-in F (ds ++ (x .day ∷ []))) (sym (c .days-day-items .ensures .is)) ∙ w)
 
 pub loop-day-again : need.loop-day-again
 loop-day-again g c =
