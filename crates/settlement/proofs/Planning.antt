@@ -46,8 +46,8 @@ module _ (r : Rules) (b : Marking) (first day : ℕ) (e : Event) (days : List �
   no-cause served enough =
       let l : leb (r .minimum (kind-in b day)) (length (selected-days r b day)) ≡ true = le-leb _ _ (subst (λ (ds : List ℕ). r .minimum (kind-in b day) ≤ length ds) drawn enough) in
       let k : day-cause r b day ≡ None =
-          ap (λ s. cond s (cond (leb (r .minimum (kind-in b day)) (length (selected-days r b day))) None (Some (TooFewDays day))) (Some NotServed)) served
-          ∙ ap (λ s. cond s None (Some (TooFewDays day))) l in
+      ap (λ s. cond s (cond (leb (r .minimum (kind-in b day)) (length (selected-days r b day))) None (Some (TooFewDays day))) (Some NotServed)) served
+      ∙ ap (λ s. cond s None (Some (TooFewDays day))) l in
       ap (λ o. cond (isSome o) (day-cause r b (day-in (b .resolution) first)) (Some NoEvent)) stands ∙ ap (day-cause r b) (sym on) ∙ k
 
   pub same : (i w m s : ℕ) → i ≡ intervals-of (b .resolution) → w ≡ window-start (b .resolution) (lead-place (lead-of (b .resolution) (b .events) first) first % intervals-of (b .resolution)) → m ≡ window-length (b .resolution) → s ≡ first % intervals-of (b .resolution) →

@@ -64,10 +64,11 @@ returns g c =
     let z : R ≡ m .resolution = c .resolution-resolution .ensures in
     let D = days-of (c .select-selected .result) in
     let P : Marks → Type 0 = λ (v : Marks). (plan-cause r (marking v) f ≡ None) × (_≡_ {A = Terms} (record { intervals = intervals-of R; day = day; days = D; window = c .window-window .result .first; width = c .window-window .result .count; start = c .interval-of-2 .result; count = e .count }) (terms r (marking v) f)) in
-    subst P (c .marks-marks .ensures)
-      ( no-cause r (marking m) f day e D s on drawn served enough
-      , same r (marking m) f day e D s on drawn (intervals-of R) (c .window-window .result .first) (c .window-window .result .count) (c .interval-of-2 .result)
+    subst P (c .marks-marks .ensures) (
+      no-cause r (marking m) f day e D s on drawn served enough,
+      same r (marking m) f day e D s on drawn (intervals-of R) (c .window-window .result .first) (c .window-window .result .count) (c .interval-of-2 .result)
           (ap intervals-of z)
           (w ∙ ap (λ x. window-start x (L % intervals-of x)) z)
           (c .window-window .ensures .count ∙ ap window-length z)
-          (c .interval-of-2 .ensures .is ∙ ap (λ x. f % intervals-of x) z))
+          (c .interval-of-2 .ensures .is ∙ ap (λ x. f % intervals-of x) z),
+    )
