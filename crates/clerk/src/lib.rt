@@ -23,6 +23,7 @@ mod header;
 mod run;
 
 pub use desk::Worked;
+pub use desk::settle_and_print;
 pub use desk::work;
 pub use header::Header;
 pub use header::word_at;
