@@ -1,2 +1,4 @@
 pub mod Steps
 pub mod Draws
+pub mod Latest
+pub mod Law

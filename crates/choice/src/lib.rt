@@ -4,10 +4,15 @@ ghost use mathlib.Core.Path.{_≡_};
 ghost use Prim.Native.Nat.{_≤_};
 ghost use lib.ListN.{length, take};
 
+mod laws;
 mod selection;
+mod testing;
 
+pub use laws::choice_figures_stand;
+pub use laws::choice_stands;
 pub use selection::select;
 pub use selection::select_assessed;
+pub use testing::test_days;
 
 // The selected days, the latest first.
 #[derive(Clone, Copy)]

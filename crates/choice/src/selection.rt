@@ -10,7 +10,7 @@ use method::methodology::Methodology;
 const LOOKED_AT: u8 = 50;
 
 // Whether a day is passed over: an event day, and in an assessment an exclusion too.
-fn is_passed(marks: &Marks, day: u16, assessing: bool) -> bool
+pub(crate) fn is_passed(marks: &Marks, day: u16, assessing: bool) -> bool
     ensures { λ r. ⌜ (Orderly (now (marks .entry)) → r ≡ passed-over assessing (marking (now (marks .entry))) day) ⌝ }
 {
     if marks.is_event_day(day) {
