@@ -20,7 +20,7 @@ use Rattle.method.specs.Energy.{Sound}
 use Rattle.metering.specs.Sums.{or-else, first-in}
 use Rattle.metering.specs.declared.SourceFault.{SourceFault}
 use Rattle.metering.specs.Energy.{energy-at, missing-at, trouble-at, places}
-use Rattle.settlement.specs.Lines.{Terms, chosen-days, day-sources, sources, trouble, used, used-before, V-of, W-of, A-of, Usable}
+use Rattle.settlement.specs.Lines.{Terms, chosen-days, day-sources, sources, trouble, used, used-before, V-of, W-of, A-of}
 
 -- neither of two is some
 or-parts : {Y : Type 0} (o p : Option Y) → or-else o p ≡ None → (o ≡ None) × (p ≡ None)
@@ -82,7 +82,14 @@ module _ (at : Readings) (u c : ℕ) where
         let e : d * x .intervals + x .start + i ≡ d * x .intervals + (x .start + i) = add-assoc (d * x .intervals) (x .start) i in
         omega (arith, stretch-low (d * x .intervals + (x .start + i)) 1 (subst Low e p, tt))
 
-    pub usable : (i : ℕ) → 0 < chosen-days x → 0 < x .width → i < x .count → Usable at u c x (x .start + i)
+    -- the event's own day is low too
+    pub metered-low : (i : ℕ) → i < x .count → energy-at at u c (x .day * x .intervals + (x .start + i)) ≤ 5000
+    metered-low i h =
+        let day = all-right (λ d. All Low (day-sources x d)) (x .days) (x .day ∷ []) days-low in
+        let ev = all-right Low (places (x .intervals) (x .day) (x .window) (x .width)) (places (x .intervals) (x .day) (x .start) (x .count)) (day .0) in
+        subst Low (add-assoc (x .day * x .intervals) (x .start) i) (all-counting Low (x .day * x .intervals + x .start) (x .count) i ev h)
+
+    pub usable : (i : ℕ) → 0 < chosen-days x → 0 < x .width → i < x .count → Sound (V-of at u c x (x .start + i)) (W-of at u c x) (A-of at u c x) (chosen-days x) (x .width)
     usable i hn hm h =
         let n = length (x .days) in
         let m = x .width in

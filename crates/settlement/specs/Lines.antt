@@ -1,7 +1,7 @@
 -- What the lines of a settled event hold, over readings alone. Assumes nothing.
 use mathlib.Core.Path.{_≡_}
 use mathlib.Core.List.{List, [], _∷_, _++_, map}
-use Prim.Native.Nat.{ℕ, _+_, _*_}
+use Prim.Native.Nat.{ℕ, _+_, _*_, _≤_}
 use lib.IntN.{ℤ, pos, _+ℤ_, _-ℤ_}
 use lib.ListN.{length}
 use Rattle.std.specs.Iters.{counting, folded}
@@ -62,9 +62,10 @@ module _ (at : Readings) (u c : ℕ) where
   abbrev pub metered : Terms → ℕ → ℕ
   metered x i = energy-at at u c (x .day * x .intervals + i)
 
-  -- the energies that a line's baseline is asked for are within their limits
-  abbrev pub Usable : Terms → ℕ → Type 0
-  Usable x i = Sound (V-of x i) (W-of x) (A-of x) (chosen-days x) (x .width)
+  -- the energies of a line are within their limits
+  pub record Usable (x : Terms) (i : ℕ) : Type 0 where
+    pub sound : Sound (V-of x i) (W-of x) (A-of x) (chosen-days x) (x .width)
+    pub low : metered x i ≤ 5000
 
   module _ (baseline : ℕ → ℕ → ℕ → ℕ → ℕ → ℤ) where
     abbrev pub baseline-at : Terms → ℕ → ℤ

@@ -1,6 +1,9 @@
 // Settling an event: a book of marks, a unit of neighbouring points, and the lines that the baseline and the meters give.
 // This file has the types; `marking` has a book's calls, and `settling` the settlement itself.
 ghost use mathlib.Core.Path.{_≡_};
+ghost use Prim.Native.Nat.{_*_, _≤_};
+ghost use lib.IntN.{pos, negℤ};
+ghost use lib.Signed.{_≤ℤ_};
 ghost use Rattle.marks.specs.Marked.{DaysFit, HolidaysRise, ExclusionsRise, EventsRise, EventsApart};
 ghost use Rattle.settlement.specs.Orders.{EventsInDays, EventsInTime};
 ghost use Rattle.settlement.specs.declared.SettleFault.the-variants.{Source};
@@ -52,13 +55,17 @@ pub struct Line {
     pub reduction: i32,
 }
 
-// What `settle` answers: the event by its first place and count, the number of selected days, and the sum of reductions.
+// What `settle` answers: the event by its first place and count, the number of selected days, and the sum of reductions,
+// which is at most 10,000 a line either way. It is not `Copy`, and `settle` alone makes one.
 #[derive(Drop)]
 pub struct Settlement {
     first: u32,
     count: u32,
     days: u32,
     sum: i64,
+    ghost few: { count ≤ 288 },
+    ghost low: { negℤ (pos (10000 * count)) ≤ℤ sum },
+    ghost high: { sum ≤ℤ pos (10000 * count) },
 }
 
 // Why an event is not settled.

@@ -4,7 +4,7 @@ ghost use mathlib.Core.Bool.{true};
 ghost use mathlib.Core.List.{_++_};
 ghost use Prim.Native.Nat.{ℕ, _+_, _*_, _<_, _≤_};
 ghost use lib.ListN.{length, drop};
-ghost use lib.IntN.{pos, negsuc};
+ghost use lib.IntN.{pos, negsuc, negℤ};
 ghost use lib.Signed.{_≤ℤ_};
 ghost use Rattle.std.specs.Vec.{made};
 ghost use Rattle.method.specs.Energy.{Sound};
@@ -66,7 +66,9 @@ impl Settlement {
 
     // The sum of the reductions.
     pub fn sum(&self) -> i64
-        ensures { λ r. ⌜ r ≡ now (self .entry) .sum ⌝ }
+        ensures is { λ r. ⌜ r ≡ now (self .entry) .sum ⌝ }
+        ensures low { λ r. ⌜ negℤ (pos (10000 * now (self .entry) .count)) ≤ℤ r ⌝ }
+        ensures high { λ r. ⌜ r ≤ℤ pos (10000 * now (self .entry) .count) ⌝ }
     {
         self.sum
     }
@@ -180,7 +182,7 @@ fn line_at<S: Store, M: Methodology>(
     requires present { ⌜ adjustment .present ≡ A-of (S·Store .meaning (now store) .at) (unit .first) (unit .count) (terms-of (now plan)) ⌝ }
     requires usable { ⌜ Usable (S·Store .meaning (now store) .at) (unit .first) (unit .count) (terms-of (now plan)) interval ⌝ }
     ensures is { λ r. ⌜ r ≡ line-at (S·Store .meaning (now (store .entry)) .at) (unit .first) (unit .count) (M·Methodology .meaning (now (method .entry)) .baseline) (terms-of (now (plan .entry))) interval ⌝ }
-    ensures low { λ r. ⌜ negsuc 1999999 ≤ℤ r .reduction ⌝ }
+    ensures low { λ r. ⌜ negsuc 9999 ≤ℤ r .reduction ⌝ }
     ensures high { λ r. ⌜ r .reduction ≤ℤ pos 10000 ⌝ }
 {
     let stretch = Stretch {
@@ -213,6 +215,8 @@ fn fill<S: Store, M: Methodology>(
     requires usable { ⌜ ((i : ℕ) → i < now plan .event .count → Usable (S·Store .meaning (now store) .at) (unit .first) (unit .count) (terms-of (now plan)) (now plan .event .first + i)) ⌝ }
     ensures lines { λ _. ⌜ now (lines .exit) ≡ lines-of (S·Store .meaning (now (store .entry)) .at) (unit .first) (unit .count) (M·Methodology .meaning (now (method .entry)) .baseline) (terms-of (now (plan .entry))) ++ drop (now (plan .entry) .event .count) (now (lines .entry)) ⌝ }
     ensures sum { λ r. ⌜ r ≡ reductions (lines-of (S·Store .meaning (now (store .entry)) .at) (unit .first) (unit .count) (M·Methodology .meaning (now (method .entry)) .baseline) (terms-of (now (plan .entry)))) ⌝ }
+    ensures low { λ r. ⌜ negℤ (pos (10000 * now (plan .entry) .event .count)) ≤ℤ r ⌝ }
+    ensures high { λ r. ⌜ r ≤ℤ pos (10000 * now (plan .entry) .event .count) ⌝ }
 {
     let adjustment = adjust(store, unit, plan);
     let first = plan.event.first;

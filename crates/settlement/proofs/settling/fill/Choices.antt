@@ -13,4 +13,4 @@ abbrev pub Inv-loop-i : given.InvT-loop-i
 Inv-loop-i g l =
     (l .lines ≡ map (line-at (g .S·Store .meaning (l .store) .at) (l .unit .first) (l .unit .count) (g .M·Methodology .meaning (l .method) .baseline) (terms-of (l .plan))) (counting (l .plan .event .first) (l .i)) ++ drop (l .i) (l .entry .lines))
     × (l .sum ≡ reductions (map (line-at (g .S·Store .meaning (l .store) .at) (l .unit .first) (l .unit .count) (g .M·Methodology .meaning (l .method) .baseline) (terms-of (l .plan))) (counting (l .plan .event .first) (l .i))))
-    × (negℤ (pos (2000000 * l .i)) ≤ℤ l .sum) × (l .sum ≤ℤ pos (10000 * l .i))
+    × (negℤ (pos (10000 * l .i)) ≤ℤ l .sum) × (l .sum ≤ℤ pos (10000 * l .i))

@@ -5,7 +5,7 @@ use Rattle.settlement.specs.Books.{book-marking}
 use Rattle.settlement.specs.Lines.{Terms, chosen-days}
 use Rattle.settlement.specs.Plans.{terms-of}
 use Rattle.settlement.specs.Settles.{terms}
-use Rattle.settlement.proofs.Limits.{usable}
+use Rattle.settlement.proofs.Limits.{usable, metered-low}
 use Rattle.settlement.proofs.Planning.{some-days, some-width}
 use Rattle.settlement.proofs.settling.settle.Needs as need
 
@@ -20,5 +20,8 @@ fill-sum-requires g c κs =
     let m : 0 < x .width = subst (λ (y : Terms). 0 < y .width) (sym (p .1)) (some-width r b (c .args .first)) in
     record {
       room = omega (arith, c .if-lines-from .left, c .from .ensures);
-      usable = λ i h. usable (g .S·Store .meaning (c .args .store .now) .at) (u .first) (u .count) x (c .in-Continue-try-sources .ensures tt) i n m h;
+      usable = λ i h. record {
+        sound = usable (g .S·Store .meaning (c .args .store .now) .at) (u .first) (u .count) x (c .in-Continue-try-sources .ensures tt) i n m h;
+        low = metered-low (g .S·Store .meaning (c .args .store .now) .at) (u .first) (u .count) x (c .in-Continue-try-sources .ensures tt) i h;
+      };
     }
