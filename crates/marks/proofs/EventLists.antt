@@ -1,9 +1,9 @@
 -- The events of a book, in the order of their first places. Assumes nothing.
 use mathlib.Core.Path.{_≡_, refl, sym, ap, subst, _∙_}
-use mathlib.Core.Bool.{Bool, true, false, cond, not, _&&_, _||_}
+use mathlib.Core.Bool.{Bool, true, false, cond, not, _&&_}
 use mathlib.Core.List.{List, [], _∷_}
 use mathlib.Core.Logic.{⊎-elim}
-use Prim.Native.Nat.{ℕ, zero, suc, _+_, _-_, _*_, _/_, _%_, _≤_, _<_}
+use Prim.Native.Nat.{ℕ, zero, suc, _+_, _-_, _*_, _%_, _≤_, _<_}
 use native.Mathlib.Omega.{arith}
 use lib.Dec.{eqb, ltb, leb}
 use lib.ListN.{length, getD}
@@ -13,7 +13,7 @@ use Rattle.std.proofs.shelf.Maps.{nth-getD}
 use Rattle.std.specs.shelf.Lists.{inserted, removed, kept-by}
 use Rattle.std.proofs.shelf.Edits.{length-inserted, getD-inserted-below, getD-inserted-at, getD-inserted-above, length-removed, getD-removed-below, getD-removed-above}
 use Rattle.std.proofs.shelf.Lists.{getD-default}
-use Rattle.std.proofs.shelf.Tests.{cases-lt, cases-order, cases-bool, both-ways, or-left, or-right, or-from, or-parts, and-from, and-parts, and-left, and-right, eqb-true, eqb-false, eq-eqb, ne-eqb, ltb-true, ltb-false, lt-ltb, le-ltb, leb-true, le-leb, lt-leb, cond-true, cond-false, not-true, not-false, not-from-true, not-from-false}
+use Rattle.std.proofs.shelf.Tests.{cases-lt, cases-order, cases-bool, both-ways, or-left, or-right, or-from, or-parts, and-from, and-parts, and-left, and-right, eqb-true, eqb-false, eq-eqb, ne-eqb, ltb-true, ltb-false, lt-ltb, le-ltb, leb-true, le-leb, lt-leb, cond-true, cond-false, not-false, not-from-false}
 use Rattle.std.specs.declared.option.Option.{Option}
 use Rattle.std.specs.declared.option.Option.the-variants.{Some, None}
 use Rattle.calendar.specs.declared.Resolution.{Resolution}
@@ -24,7 +24,7 @@ use Rattle.register.proofs.Places.{spot-below, spot-from, spot-within, absent}
 use Rattle.register.proofs.Lookups.{nth-some, seek-some, seek-key}
 use Rattle.marks.specs.declared.Event.{Event}
 use Rattle.marks.specs.Keys.{event-key}
-use Rattle.marks.specs.Marked.{end-of, day-in, some-of, event-day, well-placed, overlapping, starts-before, ends-after, open-event, closely-before, leads, last-of, lead-of, LeadRank, Placed, Apart}
+use Rattle.marks.specs.Marked.{end-of, day-in, some-of, event-day, well-placed, in-book, overlapping, starts-before, ends-after, open-event, closely-before, leads, last-of, lead-of, LeadRank, Placed, Apart}
 
 -- ---- some of a list
 
@@ -182,11 +182,16 @@ module _ (r : Resolution) (days f n : ℕ) (fit : days ≤ 4096) (on : day-in r 
       within r days f n fit on (leb-true (f % intervals-of r + n) (intervals-of r) (and-parts (leb (4 * hour-of r) (f % intervals-of r)) _ q .1))
 
 module _ (r : Resolution) (days : ℕ) (fit : days ≤ 4096) (es : List Event) (rise : Rising event-key es) (placed : Placed r days es) (apart : Apart es) where
+  parts : (i : ℕ) (d : Event) → i < length es → (day-in r (getD es i d .first) < days) × (well-placed r (getD es i d .first) (getD es i d .count) ≡ true)
+  parts i d l =
+      let p = and-parts (ltb (day-in r (getD es i d .first)) days) _ (placed i d l) in
+      (ltb-true (day-in r (getD es i d .first)) days (p .0), p .1)
+
   long : (i : ℕ) (d : Event) → i < length es → 1 ≤ getD es i d .count
-  long i d l = has-interval r days (getD es i d .first) (getD es i d .count) fit (placed i d l .0) (placed i d l .1)
+  long i d l = has-interval r days (getD es i d .first) (getD es i d .count) fit (parts i d l .0) (parts i d l .1)
 
   pub ends : (i : ℕ) (d : Event) → i < length es → end-of (getD es i d) ≤ 1179648
-  ends i d l = ends-in-book r days (getD es i d .first) (getD es i d .count) fit (placed i d l .0) (placed i d l .1)
+  ends i d l = ends-in-book r days (getD es i d .first) (getD es i d .count) fit (parts i d l .0) (parts i d l .1)
 
   pub nth-ends : (i : ℕ) (e : Event) → nth es i ≡ Some e → end-of e ≤ 1179648
   nth-ends i e n = let s = nth-some es i e n in let w = ap end-of (s .1 e) in omega (arith, ends i e (s .0))
@@ -294,7 +299,7 @@ module _ (r : Resolution) (days : ℕ) (fit : days ≤ 4096) (es : List Event) (
     at-spot = spot event-key f es
 
     pub placed-inserted : Placed r days (inserted es at-spot (open-event f n))
-    placed-inserted = each-inserted es at-spot (open-event f n) (spot-within event-key f es) (λ e. (day-in r (e .first) < days) × (well-placed r (e .first) (e .count) ≡ true)) placed (on, ok)
+    placed-inserted = each-inserted es at-spot (open-event f n) (spot-within event-key f es) (λ e. in-book r days e ≡ true) placed (and-from (ltb (day-in r f) days) _ (lt-ltb (day-in r f) days on) ok)
 
     pub apart-inserted : Apart (inserted es at-spot (open-event f n))
     apart-inserted =
@@ -303,7 +308,7 @@ module _ (r : Resolution) (days : ℕ) (fit : days ≤ 4096) (es : List Event) (
         (free-after f n at-spot refl free)
 
   pub placed-removed : (s : ℕ) → s < length es → Placed r days (removed es s)
-  placed-removed s lt = each-removed es s lt (λ e. (day-in r (e .first) < days) × (well-placed r (e .first) (e .count) ≡ true)) placed
+  placed-removed s lt = each-removed es s lt (λ e. in-book r days e ≡ true) placed
 
   pub apart-removed : (s : ℕ) → s < length es → Apart (removed es s)
   apart-removed s lt = pairs-removed es s lt (λ a b. end-of a ≤ b .first) apart

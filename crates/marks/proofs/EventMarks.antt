@@ -1,15 +1,14 @@
 -- What marking an event finds and makes. Assumes nothing.
 use mathlib.Core.Path.{_≡_, refl, sym, ap, _∙_}
-use mathlib.Core.Bool.{Bool, true, false, cond}
+use mathlib.Core.Bool.{true, false, cond}
 use mathlib.Core.List.{List}
 use mathlib.Core.Logic.{⊎-elim}
-use Prim.Native.Nat.{ℕ, _+_, _<_, _≤_}
+use Prim.Native.Nat.{ℕ, _+_, _<_}
 use native.Mathlib.Omega.{arith}
 use lib.Dec.{ltb}
 use lib.ListN.{length}
 use Rattle.std.specs.Options.{isSome}
 use Rattle.std.proofs.shelf.Tests.{cases-bool, both-ways, ltb-true, lt-ltb, cond-true, cond-false}
-use Rattle.std.specs.declared.option.Option.{Option}
 use Rattle.std.specs.declared.option.Option.the-variants.{Some, None}
 use Rattle.register.specs.declared.RegisterFault.{RegisterFault}
 use Rattle.register.specs.declared.RegisterFault.the-variants as register
@@ -17,7 +16,6 @@ use Rattle.register.specs.Held.{held, capacity}
 use Rattle.register.specs.Order.{seek, refusal, spot}
 use Rattle.marks.specs.declared.Event.{Event}
 use Rattle.marks.specs.declared.Marks.{Marks}
-use Rattle.marks.specs.declared.MarkFault.{MarkFault}
 use Rattle.marks.specs.declared.MarkFault.the-variants.{DayBeyond, Misplaced, Overlap, Full}
 use Rattle.marks.specs.Keys.{event-key}
 use Rattle.marks.specs.Marked.{Marking, marking, day-in, day-within, well-placed, some-of, overlapping, open-event, event-fault, Orderly}

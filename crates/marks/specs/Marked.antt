@@ -60,6 +60,7 @@ day-set xs slots = record { has = λ d. isSome (seek day-key d xs); free = slots
 abbrev pub days-in : Register DayMark → DaySet
 days-in g = day-set (held g) (capacity g)
 
+-- what the fields of a book's marks mean
 abbrev pub marking : Marks → Marking
 marking m = record {
   resolution = m .resolution;
@@ -94,6 +95,7 @@ DayLifted s s′ d r = Cases r
 
 -- ---- events
 
+-- the first place after an event
 abbrev pub end-of : Event → ℕ
 end-of e = e .first + e .count
 
@@ -118,11 +120,12 @@ some-of p (x ∷ xs) = p x || some-of p xs
 abbrev pub overlapping : ℕ → ℕ → Event → Bool
 overlapping first count e = ltb (e .first) (first + count) && ltb first (end-of e)
 
--- an event, where there is one, starts before a place, or ends after it
+-- an event, where there is one, starts before a place ..
 abbrev pub starts-before : ℕ → Option Event → Bool
 starts-before place None = false
 starts-before place (Some e) = ltb (e .first) place
 
+-- .. or ends after it
 abbrev pub ends-after : ℕ → Option Event → Bool
 ends-after place None = false
 ends-after place (Some e) = ltb place (end-of e)
@@ -131,6 +134,7 @@ ends-after place (Some e) = ltb place (end-of e)
 abbrev pub event-day : Resolution → List Event → ℕ → Bool
 event-day r es d = some-of (λ e. eqb (day-in r (e .first)) d) es
 
+-- why an event is not marked
 abbrev pub event-fault : Marking → ℕ → ℕ → Option MarkFault
 event-fault b first count =
     cond (ltb (day-in (b .resolution) first) (b .days))
@@ -140,6 +144,7 @@ event-fault b first count =
     (Some Misplaced))
     (Some DayBeyond)
 
+-- an event whose credit was not issued
 abbrev pub open-event : ℕ → ℕ → Event
 open-event first count = record { first = first; count = count; issued = false }
 
@@ -154,12 +159,13 @@ abbrev pub lift-fault : Option Event → Option MarkFault
 lift-fault None = Some Absent
 lift-fault (Some e) = cond (e .issued) (Some Issued) None
 
+-- what lifting the event with this first place makes of the events, with the answer r
 abbrev pub EventLifted : {U : Type 0} → Marking → Marking → ℕ → Result U MarkFault → Type 0
 EventLifted b b′ first r = Cases r
     (λ _. (lift-fault (seek event-key first (b .events)) ≡ None) × (b′ .events ≡ removed (b .events) (spot event-key first (b .events))))
     (λ e. (lift-fault (seek event-key first (b .events)) ≡ Some e) × (b′ .events ≡ b .events))
 
--- all but the events stays, all but the holidays, all but the exclusions
+-- all but the events stays ..
 pub record SameButEvents (b b′ : Marking) : Type 0 where
   pub resolution : b′ .resolution ≡ b .resolution
   pub days : b′ .days ≡ b .days
@@ -167,6 +173,7 @@ pub record SameButEvents (b b′ : Marking) : Type 0 where
   pub exclusions : b′ .exclusions ≡ b .exclusions
   pub event-slots : b′ .event-slots ≡ b .event-slots
 
+-- .. all but the holidays ..
 pub record SameButHolidays (b b′ : Marking) : Type 0 where
   pub resolution : b′ .resolution ≡ b .resolution
   pub days : b′ .days ≡ b .days
@@ -174,6 +181,7 @@ pub record SameButHolidays (b b′ : Marking) : Type 0 where
   pub events : b′ .events ≡ b .events
   pub event-slots : b′ .event-slots ≡ b .event-slots
 
+-- .. and all but the exclusions
 pub record SameButExclusions (b b′ : Marking) : Type 0 where
   pub resolution : b′ .resolution ≡ b .resolution
   pub days : b′ .days ≡ b .days
@@ -209,28 +217,34 @@ pub record LeadRank (r : Resolution) (es : List Event) (i k : ℕ) : Type 0 wher
   pub found : (d : Event) → leads r es (getD es k d) ≡ true
   pub later : (j : ℕ) (d : Event) → (k < j) × (j ≤ i) → leads r es (getD es j d) ≡ false
 
--- where the adjustment window starts that serves the event at `first`
+-- where the adjustment window of a lead starts
 abbrev pub window-from : Resolution → Option Event → Option ℕ
 window-from r None = None
 window-from r (Some l) = Some (window-start r (l .first))
 
 -- ---- the order that every book keeps
 
--- the records of each register are in rising order
+-- the records are in rising order: of the holidays ..
 abbrev pub HolidaysRise : Marks → Type 0
 HolidaysRise m = Rising day-key (held (m .holidays))
 
+-- .. of the exclusions ..
 abbrev pub ExclusionsRise : Marks → Type 0
 ExclusionsRise m = Rising day-key (held (m .exclusions))
 
+-- .. and of the events
 abbrev pub EventsRise : Marks → Type 0
 EventsRise m = Rising event-key (held (m .events))
 
--- every event is well placed in a day of the book
-abbrev pub Placed : Resolution → ℕ → List Event → Type 0
-Placed r days es = (i : ℕ) (d : Event) → i < length es →
-    (day-in r (getD es i d .first) < days) × (well-placed r (getD es i d .first) (getD es i d .count) ≡ true)
+-- an event is well placed in a day of a book of so many days
+abbrev pub in-book : Resolution → ℕ → Event → Bool
+in-book r days e = ltb (day-in r (e .first)) days && well-placed r (e .first) (e .count)
 
+-- every event is so placed
+abbrev pub Placed : Resolution → ℕ → List Event → Type 0
+Placed r days es = (i : ℕ) (d : Event) → i < length es → in-book r days (getD es i d) ≡ true
+
+-- so it is in these marks
 abbrev pub EventsPlaced : Marks → Type 0
 EventsPlaced m = Placed (m .resolution) (m .days) (held (m .events))
 
@@ -238,6 +252,7 @@ EventsPlaced m = Placed (m .resolution) (m .days) (held (m .events))
 abbrev pub Apart : List Event → Type 0
 Apart es = (i j : ℕ) (d : Event) → (i < j) × (j < length es) → end-of (getD es i d) ≤ getD es j d .first
 
+-- so it is in these marks
 abbrev pub EventsApart : Marks → Type 0
 EventsApart m = Apart (held (m .events))
 
@@ -245,6 +260,7 @@ EventsApart m = Apart (held (m .events))
 abbrev pub DaysFit : Marks → Type 0
 DaysFit m = (1 ≤ m .days) × (m .days ≤ 4096)
 
+-- all of it
 pub record Orderly (m : Marks) : Type 0 where
   pub fit : DaysFit m
   pub holidays : HolidaysRise m

@@ -99,12 +99,14 @@ impl<'a> Marks<'a> {
         }
     }
 
+    // How a day of the book is cut into intervals.
     pub fn resolution(&self) -> Resolution
         ensures { λ r. ⌜ r ≡ marking (now (self .entry)) .resolution ⌝ }
     {
         self.resolution
     }
 
+    // How many days the book has.
     pub fn days(&self) -> u16
         ensures { λ r. ⌜ r ≡ marking (now (self .entry)) .days ⌝ }
     {
@@ -125,12 +127,14 @@ impl<'a> Marks<'a> {
         self.exclusions.len()
     }
 
+    // Whether the day is marked a holiday.
     pub fn is_holiday(&self, day: u16) -> bool
         ensures { λ r. ⌜ (Orderly (now (self .entry)) → r ≡ marking (now (self .entry)) .holidays .has day) ⌝ }
     {
         self.holidays.find(u32::from(day)).is_some()
     }
 
+    // Whether the day is marked an exclusion.
     pub fn is_exclusion(&self, day: u16) -> bool
         ensures { λ r. ⌜ (Orderly (now (self .entry)) → r ≡ marking (now (self .entry)) .exclusions .has day) ⌝ }
     {
@@ -144,22 +148,25 @@ impl<'a> Marks<'a> {
         calendar::kind_on(u32::from(day), self.is_holiday(day))
     }
 
+    // Marks a day of the book a holiday.
     pub fn mark_holiday(&mut self, day: u16) -> Result<(), MarkFault>
-        ensures done { λ r. ⌜ (Orderly (now (self .entry)) → DayMarked (now (self .entry) .days) (marking (now (self .entry)) .holidays) (marking (now (self .exit)) .holidays) day r) ⌝ }
+        ensures done { λ r. ⌜ (Orderly (now (self .entry)) → DayMarked (marking (now (self .entry)) .days) (marking (now (self .entry)) .holidays) (marking (now (self .exit)) .holidays) day r) ⌝ }
         ensures rest { λ _. ⌜ SameButHolidays (marking (now (self .entry))) (marking (now (self .exit))) ⌝ }
         ensures order { λ _. ⌜ (Orderly (now (self .entry)) → Orderly (now (self .exit))) ⌝ }
     {
         mark_in(&mut self.holidays, self.days, day)
     }
 
+    // Marks a day of the book an exclusion.
     pub fn mark_exclusion(&mut self, day: u16) -> Result<(), MarkFault>
-        ensures done { λ r. ⌜ (Orderly (now (self .entry)) → DayMarked (now (self .entry) .days) (marking (now (self .entry)) .exclusions) (marking (now (self .exit)) .exclusions) day r) ⌝ }
+        ensures done { λ r. ⌜ (Orderly (now (self .entry)) → DayMarked (marking (now (self .entry)) .days) (marking (now (self .entry)) .exclusions) (marking (now (self .exit)) .exclusions) day r) ⌝ }
         ensures rest { λ _. ⌜ SameButExclusions (marking (now (self .entry))) (marking (now (self .exit))) ⌝ }
         ensures order { λ _. ⌜ (Orderly (now (self .entry)) → Orderly (now (self .exit))) ⌝ }
     {
         mark_in(&mut self.exclusions, self.days, day)
     }
 
+    // The day is a holiday no more.
     pub fn lift_holiday(&mut self, day: u16) -> Result<(), MarkFault>
         ensures done { λ r. ⌜ (Orderly (now (self .entry)) → DayLifted (marking (now (self .entry)) .holidays) (marking (now (self .exit)) .holidays) day r) ⌝ }
         ensures rest { λ _. ⌜ SameButHolidays (marking (now (self .entry))) (marking (now (self .exit))) ⌝ }
@@ -168,6 +175,7 @@ impl<'a> Marks<'a> {
         lift_in(&mut self.holidays, day)
     }
 
+    // The day is an exclusion no more.
     pub fn lift_exclusion(&mut self, day: u16) -> Result<(), MarkFault>
         ensures done { λ r. ⌜ (Orderly (now (self .entry)) → DayLifted (marking (now (self .entry)) .exclusions) (marking (now (self .exit)) .exclusions) day r) ⌝ }
         ensures rest { λ _. ⌜ SameButExclusions (marking (now (self .entry))) (marking (now (self .exit))) ⌝ }

@@ -8,12 +8,11 @@ ghost use Rattle.std.specs.Options.{isSome};
 ghost use Rattle.std.specs.declared.option.Option.the-variants.{Some, None};
 ghost use Rattle.std.specs.shelf.Maps.{nth};
 ghost use Rattle.register.specs.Order.{seek};
-ghost use Rattle.marks.specs.declared.Event.{Event as Marked};
 ghost use Rattle.calendar.specs.declared.Resolution.the-variants.{FiveMinutes};
 ghost use Rattle.calendar.specs.Days.{window-length};
 ghost use Rattle.marks.specs.Keys.{event-key};
 ghost use Rattle.marks.specs.Marked.{marking, day-within, event-day, end-of, well-placed, some-of, overlapping, starts-before, ends-after, Orderly};
-ghost use Rattle.marks.specs.Marked.{EventMarked, EventLifted, SameButEvents, closely-before, leads, lead-of, LeadRank, open-event, window-from};
+ghost use Rattle.marks.specs.Marked.{EventMarked, EventLifted, lift-fault, SameButEvents, closely-before, leads, lead-of, LeadRank, open-event, window-from};
 use crate::Event;
 use crate::EventRecord;
 use crate::MarkFault;
@@ -91,7 +90,7 @@ impl<'a> Marks<'a> {
 
     // Whether the day has an event, open or issued.
     pub fn is_event_day(&self, day: u16) -> bool
-        ensures { λ r. ⌜ (Orderly (now (self .entry)) → r ≡ event-day (now (self .entry) .resolution) (marking (now (self .entry)) .events) day) ⌝ }
+        ensures { λ r. ⌜ (Orderly (now (self .entry)) → r ≡ event-day (marking (now (self .entry)) .resolution) (marking (now (self .entry)) .events) day) ⌝ }
     {
         let intervals = self.resolution.intervals();
         let rank = self.events.first_at(u32::from(day) * intervals);
@@ -135,6 +134,7 @@ impl<'a> Marks<'a> {
         self.ends_after(rank - 1, first)
     }
 
+    // Marks an event that is not issued: it lies in a day of the book and overlaps none.
     pub fn mark_event(&mut self, first: u32, count: u32) -> Result<(), MarkFault>
         ensures done { λ r. ⌜ (Orderly (now (self .entry)) → EventMarked (marking (now (self .entry))) (marking (now (self .exit))) first count r) ⌝ }
         ensures rest { λ _. ⌜ SameButEvents (marking (now (self .entry))) (marking (now (self .exit))) ⌝ }
@@ -160,16 +160,25 @@ impl<'a> Marks<'a> {
         }
     }
 
+    // Why the event with this first place is not lifted.
+    fn lift_fault(&self, first: u32) -> Option<MarkFault>
+        ensures { λ r. ⌜ (Orderly (now (self .entry)) → r ≡ lift-fault (seek event-key first (marking (now (self .entry)) .events))) ⌝ }
+    {
+        match self.events.find(first) {
+            Some(event) if event.issued => Some(MarkFault::Issued),
+            Some(_) => None,
+            None => Some(MarkFault::Absent),
+        }
+    }
+
+    // Lifts the event with this first place, where it is not issued.
     pub fn lift_event(&mut self, first: u32) -> Result<(), MarkFault>
         ensures done { λ r. ⌜ (Orderly (now (self .entry)) → EventLifted (marking (now (self .entry))) (marking (now (self .exit))) first r) ⌝ }
         ensures rest { λ _. ⌜ SameButEvents (marking (now (self .entry))) (marking (now (self .exit))) ⌝ }
         ensures order { λ _. ⌜ (Orderly (now (self .entry)) → Orderly (now (self .exit))) ⌝ }
     {
-        let Some(event) = self.events.find(first) else {
-            return Err(MarkFault::Absent);
-        };
-        if event.issued {
-            return Err(MarkFault::Issued);
+        if let Some(fault) = self.lift_fault(first) {
+            return Err(fault);
         }
         match self.events.remove(first) {
             Ok(_) => Ok(()),
@@ -179,7 +188,7 @@ impl<'a> Marks<'a> {
 
     // Whether the event at a rank is its day's first or follows four clear hours.
     fn leads(&self, rank: usize) -> bool
-        ensures { λ r. ⌜ (Orderly (now (self .entry)) → rank < length (marking (now (self .entry)) .events) → (d : Marked) → r ≡ leads (now (self .entry) .resolution) (marking (now (self .entry)) .events) (getD (marking (now (self .entry)) .events) rank d)) ⌝ }
+        ensures { λ r. ⌜ (Orderly (now (self .entry)) → rank < length (marking (now (self .entry)) .events) → (d : Event) → r ≡ leads (marking (now (self .entry)) .resolution) (marking (now (self .entry)) .events) (getD (marking (now (self .entry)) .events) rank d)) ⌝ }
     {
         if rank == 0 {
             return true;
@@ -195,7 +204,7 @@ impl<'a> Marks<'a> {
 
     // The rank of the latest event up to this rank that leads.
     fn lead_rank(&self, rank: usize) -> usize
-        ensures { λ r. ⌜ (Orderly (now (self .entry)) → rank < length (marking (now (self .entry)) .events) → LeadRank (now (self .entry) .resolution) (marking (now (self .entry)) .events) rank r) ⌝ }
+        ensures { λ r. ⌜ (Orderly (now (self .entry)) → rank < length (marking (now (self .entry)) .events) → LeadRank (marking (now (self .entry)) .resolution) (marking (now (self .entry)) .events) rank r) ⌝ }
     {
         for earlier in (0..rank).rev() {
             if self.leads(earlier + 1) {
@@ -208,7 +217,7 @@ impl<'a> Marks<'a> {
     // The lead of the event with this first place: the latest event of its day, itself included and none after it,
     // that is the day's first or follows four clear hours or more.
     pub fn lead(&self, first: u32) -> Option<Event>
-        ensures { λ r. ⌜ (Orderly (now (self .entry)) → r ≡ cond (isSome (seek event-key first (marking (now (self .entry)) .events))) (lead-of (now (self .entry) .resolution) (marking (now (self .entry)) .events) first) None) ⌝ }
+        ensures { λ r. ⌜ (Orderly (now (self .entry)) → r ≡ cond (isSome (seek event-key first (marking (now (self .entry)) .events))) (lead-of (marking (now (self .entry)) .resolution) (marking (now (self .entry)) .events) first) None) ⌝ }
     {
         if self.event_at(first).is_none() {
             return None;

@@ -11,6 +11,8 @@ use register::Register;
 mod days;
 mod events;
 
+pub use events::lead_figures_stand;
+
 // A day that is marked a holiday or an exclusion.
 #[derive(Clone, Copy, PartialEq, Eq, Debug)]
 pub struct DayMark {

@@ -12,6 +12,6 @@ orderly b = record {
   holidays = b .«holidays_rise»;
   exclusions = b .«exclusions_rise»;
   events = b .«events_rise»;
-  placed = λ i d h. (b .«in_days» i d h, b .«in_time» i d h);
+  placed = b .placed;
   apart = b .apart;
 }

@@ -2,5 +2,4 @@ pub mod Faults
 pub mod Lines
 pub mod Plans
 pub mod Books
-pub mod Orders
 pub mod Settles

@@ -4,8 +4,7 @@ ghost use mathlib.Core.Path.{_≡_};
 ghost use Prim.Native.Nat.{_*_, _≤_};
 ghost use lib.IntN.{pos, negℤ};
 ghost use lib.Signed.{_≤ℤ_};
-ghost use Rattle.marks.specs.Marked.{DaysFit, HolidaysRise, ExclusionsRise, EventsRise, EventsApart};
-ghost use Rattle.settlement.specs.Orders.{EventsInDays, EventsInTime};
+ghost use Rattle.marks.specs.Marked.{DaysFit, HolidaysRise, ExclusionsRise, EventsRise, EventsPlaced, EventsApart};
 ghost use Rattle.settlement.specs.declared.SettleFault.the-variants.{Source};
 ghost use Rattle.settlement.specs.Faults.{settle-refusal};
 use marks::Marks;
@@ -31,8 +30,7 @@ pub struct Book<'a> {
     ghost holidays_rise: { HolidaysRise marks },
     ghost exclusions_rise: { ExclusionsRise marks },
     ghost events_rise: { EventsRise marks },
-    ghost in_days: { EventsInDays marks },
-    ghost in_time: { EventsInTime marks },
+    ghost placed: { EventsPlaced marks },
     ghost apart: { EventsApart marks },
 }
 
