@@ -1,5 +1,7 @@
 // Times enters and reads on a table and on a sparse store filled in rising order, and the settling of a long event.
 // Run it by hand with any argument: a run without one, as in the gate, only says so.
+#![tactic(auto)]
+
 use calendar::Resolution;
 use marks::{DayMark, Event};
 use method::capped::Capped;

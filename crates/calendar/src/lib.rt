@@ -1,4 +1,6 @@
 // Days, their kinds and their trading intervals. Day 0 is Monday 4 January 2021.
+#![tactic(auto)]
+
 ghost use Rattle.std.specs.Prelude.{◌≡◌, ◌%◌, ◌<◌, ◌≤◌};
 ghost use Rattle.calendar.specs.Days.{intervals_of, hour_of, resolution_of, kind_on, place_of, window_start, window_length};
 

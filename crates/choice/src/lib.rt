@@ -1,5 +1,7 @@
 // The days that a baseline draws on, selected for an event or an assessment, and the test days of an assessment.
 // This file has the types; `selection` and `testing` have the walks back over the days.
+#![tactic(auto)]
+
 ghost use Rattle.std.specs.Prelude.{◌≡◌, ◌≤◌, length, take};
 
 mod laws;

@@ -1,5 +1,7 @@
 // The work of the statement program, on values: its input is a header of three words and a sheet, its output the text of
 // each settled event, up to the first refusal. `header` reads the header, `desk` works one word, `run` the whole input.
+#![tactic(auto)]
+
 ghost use Rattle.clerk.specs.Faults.{work_refusal};
 
 use refusal::Refuse;

@@ -1,5 +1,7 @@
 // A book's marks: its holidays, exclusions and events, in registers over lent lists.
 // This file has the types; `days` and `events` have what can be marked, lifted and asked.
+#![tactic(auto)]
+
 ghost use Rattle.std.specs.Prelude.{◌≡◌};
 ghost use Rattle.marks.specs.Keys.{day_key, event_key};
 ghost use Rattle.marks.specs.Marked.{mark_refusal};

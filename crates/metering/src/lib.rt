@@ -1,5 +1,7 @@
 // What a unit of neighbouring points used, and the trial of the places that a baseline draws on.
 // This file has the types; `energy` adds readings, `trial` looks for a source that cannot be used.
+#![tactic(auto)]
+
 ghost use Rattle.std.specs.Prelude.{◌≡◌, ◌+◌, ◌≤◌};
 ghost use Rattle.metering.specs.Energy.{source_refusal};
 

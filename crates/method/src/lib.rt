@@ -1,4 +1,6 @@
 // Baseline methodologies: their settings, the energies that they ask for, and the baselines that they answer.
+#![tactic(auto)]
+
 pub mod capped;
 pub mod catalogue;
 pub mod energies;

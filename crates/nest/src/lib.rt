@@ -1,5 +1,7 @@
 // What is entered through layers of stores is what is read through them.
 // This file has the answers of a short run of calls; `layers` makes the run.
+#![tactic(auto)]
+
 use store::{Reading, StoreFault};
 
 mod layers;

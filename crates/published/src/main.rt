@@ -10,6 +10,8 @@
 // The baseline is 10 kWh.
 //
 // The expected output has these days and baselines; the metered half of a baseline is made up.
+#![tactic(auto)]
+
 use calendar::Resolution;
 use marks::{DayMark, Event};
 use method::similar::SimilarDays;

@@ -1,4 +1,6 @@
 // How a declined call is told: every enum of causes gives each case a number, and the values that go with it.
+#![tactic(auto)]
+
 ghost use Rattle.std.specs.Prelude.{◌≡◌};
 ghost use Rattle.refusal.specs.Refusals.{Refusal, make_refusal};
 

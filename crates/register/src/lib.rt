@@ -1,5 +1,7 @@
 // An ordered register over a lent slice: records with distinct keys, in the order of their keys.
 // This file has the types; `ops` has what a register does.
+#![tactic(auto)]
+
 ghost use Rattle.std.specs.Prelude.{◌≡◌, ℕ};
 
 mod ops;

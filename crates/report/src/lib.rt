@@ -1,4 +1,6 @@
 // The text of a settlement: a heading, one line an interval, and the sum, written into a lent buffer.
+#![tactic(auto)]
+
 ghost use Rattle.std.specs.Prelude.{◌≡◌, ◌+◌, ◌*◌, ◌<◌, ◌≤◌, length, MatchOption, nat_le};
 ghost use Rattle.report.specs.Texts.{report_refusal, report_text, row_text, rows_text, most_bytes, Put, Reported};
 

@@ -1,5 +1,7 @@
 // Settling an event: a book of marks, a unit of neighbouring points, and the lines that the baseline and the meters give.
 // This file has the types; `marking` has a book's calls, and `settling` the settlement itself.
+#![tactic(auto)]
+
 ghost use Rattle.std.specs.Prelude.{◌≡◌, ◌*◌, ◌≤◌, pos, neg_ℤ, ◌≤ℤ◌};
 ghost use Rattle.marks.specs.Marked.{DaysFit, HolidaysRise, ExclusionsRise, EventsRise, EventsPlaced, EventsApart};
 ghost use Rattle.settlement.specs.declared.SettleFault.TheVariants.{Source};

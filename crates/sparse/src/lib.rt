@@ -1,5 +1,7 @@
 // A meter store of one point for few readings: a register of them by place, over one lent list.
 // This file has the types; `ops` has what such a store does.
+#![tactic(auto)]
+
 ghost use Rattle.std.specs.Prelude.{◌≤◌};
 ghost use Rattle.register.specs.Held.{held};
 ghost use Rattle.register.specs.Order.{Rising};

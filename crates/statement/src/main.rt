@@ -1,4 +1,6 @@
 // Reads a header and a day sheet on standard input, and prints the settled events.
+#![tactic(auto)]
+
 use std::io::{Read, Write};
 
 fn main(rt: HostRuntime) -> anyhow::Result<()> {

@@ -1,5 +1,7 @@
 // A meter store: for each point and place a reading or none, and a number of free places for each point.
 // `Store` is the meaning that every make is held to; `Pair`, `Clock` and `Lent` are layers over any stores.
+#![tactic(auto)]
+
 ghost use Rattle.std.specs.Prelude.{◌≡◌};
 ghost use Rattle.store.specs.Meaning.{Meaning, Sound, Entered, Voided, store_refusal};
 

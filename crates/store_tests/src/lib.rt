@@ -1,5 +1,6 @@
 // Tests of every make of store: one long sequence of drawn calls is given to each, and to a plain model of it.
 // `model` has the model, `drive` the sequence; this file has a test for each make.
+#![tactic(auto)]
 
 #[cfg(test)]
 mod drive;

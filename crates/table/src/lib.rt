@@ -1,4 +1,6 @@
 // A meter store of 1 to 16 points over two lent lists: a reading and a presence bit for each cell.
+#![tactic(auto)]
+
 ghost use Rattle.std.specs.Prelude.{◌≡◌, ◌*◌, ◌<◌, ◌≤◌, length, Some};
 ghost use Rattle.refusal.specs.declared.MakeFault.TheVariants.{Limits};
 ghost use Rattle.store.specs.Meaning.{Entered, Voided};

@@ -1,6 +1,8 @@
 // Runs many inputs of the statement program, one after another. Standard input has the cases, each its length in bytes,
 // four bytes highest first, and then the input; standard output gets the number of each case and what the program
 // prints for it. tools/vectors.py makes both files, the expected one by a model that shares no code with the crates.
+#![tactic(auto)]
+
 ghost use Rattle.std.specs.Prelude.{◌+◌, ◌≤◌, length, IfSome};
 
 use std::alloc::{AllocError, Global};
