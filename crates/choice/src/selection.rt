@@ -26,7 +26,7 @@ pub(crate) fn is_passed(marks: &Marks, day: u16, assessing: bool) -> bool
 // Looks at the latest 50 days before `day` that match, and selects the latest of those that are not passed over, as
 // many as the methodology wants for such a day.
 fn walk<M: Methodology>(marks: &Marks, method: &M, day: u16, assessing: bool) -> Selected
-    ensures { Orderly marks.now → days_of result ≡ drawn_days assessing (meaning method.now) (marking marks.now) day }
+    ensures { Orderly marks.now → days_of result ≡ drawn_days assessing (M.meaning method.now) (marking marks.now) day }
 {
     let kind = marks.kind_of_day(day);
     let wanted = usize::from(method.wanted(kind));
@@ -49,14 +49,14 @@ fn walk<M: Methodology>(marks: &Marks, method: &M, day: u16, assessing: bool) ->
 
 // The days selected for a day: event days are not selected.
 pub fn select<M: Methodology>(marks: &Marks, method: &M, day: u16) -> Selected
-    ensures { Orderly marks.now → days_of result ≡ selected_days (meaning method.now) (marking marks.now) day }
+    ensures { Orderly marks.now → days_of result ≡ selected_days (M.meaning method.now) (marking marks.now) day }
 {
     walk(marks, method, day, false)
 }
 
 // The days selected for a day in an assessment: neither event days nor exclusions are selected.
 pub fn select_assessed<M: Methodology>(marks: &Marks, method: &M, day: u16) -> Selected
-    ensures { Orderly marks.now → days_of result ≡ assessed_days (meaning method.now) (marking marks.now) day }
+    ensures { Orderly marks.now → days_of result ≡ assessed_days (M.meaning method.now) (marking marks.now) day }
 {
     walk(marks, method, day, true)
 }

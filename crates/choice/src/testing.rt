@@ -10,7 +10,7 @@ use method::methodology::Methodology;
 
 // Whether a load can be tested on a day: it is served, has no event and is not excluded.
 fn is_testing_day<M: Methodology>(marks: &Marks, method: &M, day: u16) -> bool
-    ensures { Orderly marks.now → result ≡ testing_day (meaning method.now) (marking marks.now) day }
+    ensures { Orderly marks.now → result ≡ testing_day (M.meaning method.now) (marking marks.now) day }
 {
     if method.serves(marks.kind_of_day(day)) {
         return !is_passed(marks, day, true);
@@ -20,7 +20,7 @@ fn is_testing_day<M: Methodology>(marks: &Marks, method: &M, day: u16) -> bool
 
 // The latest days before `day` that a load can be tested on, as many as the methodology tests.
 pub fn test_days<M: Methodology>(marks: &Marks, method: &M, day: u16) -> TestDays
-    ensures { Orderly marks.now → test_days_of result ≡ test_days (meaning method.now) (marking marks.now) day }
+    ensures { Orderly marks.now → test_days_of result ≡ test_days (M.meaning method.now) (marking marks.now) day }
 {
     let wanted = usize::from(method.test_days());
     let mut days = [0; 50];

@@ -22,5 +22,5 @@ pub fn figures_stand()
 
 // Every methodology's rules keep the laws.
 pub fn laws_stand<M: Methodology>(method: &M)
-    ensures { Lawful (meaning method.now) }
+    ensures { Lawful (M.meaning method.now) }
 {}

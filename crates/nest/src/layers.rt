@@ -11,7 +11,7 @@ const AHEAD: u32 = 2;
 
 // Enters x at point 0 and y at point 2, and voids x.
 fn run<S: Store>(store: &mut S, x: u16, y: u16) -> Seen
-    ensures { Fresh (meaning store.old) → result ≡ seen x y }
+    ensures { Fresh (S.meaning store.old) → result ≡ seen x y }
 {
     let _ = store.enter(0, 3, Reading { energy: x });
     let _ = store.enter(2, 5, Reading { energy: y });

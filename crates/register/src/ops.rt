@@ -8,7 +8,7 @@ use crate::{Record, Register, RegisterFault};
 
 // The rank of the first record of a rising list whose key is at least `key`.
 fn spot_in<R: Record>(list: &[R], key: u32) -> usize
-    ensures is { Rising keyed list.now → result ≡ spot keyed key list.now }
+    ensures is { Rising R.keyed list.now → result ≡ spot R.keyed key list.now }
     ensures within { result ≤ length list.now }
 {
     let mut low = 0;
@@ -26,7 +26,7 @@ fn spot_in<R: Record>(list: &[R], key: u32) -> usize
 
 // Where `key` stands in a rising list, or where it would stand.
 fn locate_in<R: Record>(list: &[R], key: u32) -> Result<usize, usize>
-    ensures { Located keyed key list.now result }
+    ensures { Located R.keyed key list.now result }
 {
     let at = spot_in(list, key);
     if at < list.len() && list[at].key() == key {
@@ -38,7 +38,7 @@ fn locate_in<R: Record>(list: &[R], key: u32) -> Result<usize, usize>
 
 // The record of a rising list that has `key`.
 fn find_in<R: Record>(list: &[R], key: u32) -> Option<R>
-    ensures { Rising keyed list.now → result ≡ seek keyed key list.now }
+    ensures { Rising R.keyed list.now → result ≡ seek R.keyed key list.now }
 {
     match locate_in(list, key) {
         Ok(at) => Some(list[at]),
@@ -78,7 +78,7 @@ impl<'a, R: Record> Register<'a, R> {
     pub fn new(slots: &'a mut [R]) -> Register<'a, R>
         ensures none { held result ≡ [] }
         ensures room { capacity result ≡ length slots.old }
-        ensures order { Rising keyed (held result) }
+        ensures order { Rising R.keyed (held result) }
         ensures untouched { result.slots.now ≡ slots.old }
     {
         Register { slots, used: 0 }
@@ -115,21 +115,21 @@ impl<'a, R: Record> Register<'a, R> {
 
     // Where `key` stands, or where it would stand.
     fn locate(&self, key: u32) -> Result<usize, usize>
-        ensures { Located keyed key (held self.now) result }
+        ensures { Located R.keyed key (held self.now) result }
     {
         locate_in(self.records(), key)
     }
 
     // The record with the key `key`.
     pub fn find(&self, key: u32) -> Option<R>
-        ensures { Rising keyed (held self.now) → result ≡ seek keyed key (held self.now) }
+        ensures { Rising R.keyed (held self.now) → result ≡ seek R.keyed key (held self.now) }
     {
         find_in(self.records(), key)
     }
 
     // The rank of the first record whose key is at least `key`; the length if there is none.
     pub fn first_at(&self, key: u32) -> usize
-        ensures is { Rising keyed (held self.now) → result ≡ spot keyed key (held self.now) }
+        ensures is { Rising R.keyed (held self.now) → result ≡ spot R.keyed key (held self.now) }
         ensures within { result ≤ length (held self.now) }
     {
         spot_in(self.records(), key)
@@ -149,11 +149,11 @@ impl<'a, R: Record> Register<'a, R> {
 
     // Puts a record at the place of its key; refused where the key stands, and then where there is no room.
     pub fn insert(&mut self, record: R) -> Result<(), RegisterFault>
-        ensures done { Rising keyed (held self.old) → Inserted keyed (capacity self.old) (held self.old) (held self.new) «record» result }
-        ensures finds { Rising keyed (held self.old) → Finds keyed (keyed «record») (Some «record») (held self.old) (held self.new) result }
+        ensures done { Rising R.keyed (held self.old) → Inserted R.keyed (capacity self.old) (held self.old) (held self.new) «record» result }
+        ensures finds { Rising R.keyed (held self.old) → Finds R.keyed (R.keyed «record») (Some «record») (held self.old) (held self.new) result }
         ensures counts { Counts (length (held self.old) + 1) (held self.old) (held self.new) result }
         ensures room { capacity self.new ≡ capacity self.old }
-        ensures order { Rising keyed (held self.old) → Rising keyed (held self.new) }
+        ensures order { Rising R.keyed (held self.old) → Rising R.keyed (held self.new) }
     {
         match self.locate(record.key()) {
             Ok(_) => Err(RegisterFault::Taken),
@@ -171,11 +171,11 @@ impl<'a, R: Record> Register<'a, R> {
 
     // Takes the record with the key `key` out; refused where there is none.
     pub fn remove(&mut self, key: u32) -> Result<R, RegisterFault>
-        ensures done { Rising keyed (held self.old) → Removed keyed (held self.old) (held self.new) key result }
-        ensures finds { Rising keyed (held self.old) → Finds keyed key None (held self.old) (held self.new) result }
+        ensures done { Rising R.keyed (held self.old) → Removed R.keyed (held self.old) (held self.new) key result }
+        ensures finds { Rising R.keyed (held self.old) → Finds R.keyed key None (held self.old) (held self.new) result }
         ensures counts { Counts (length (held self.old) - 1) (held self.old) (held self.new) result }
         ensures room { capacity self.new ≡ capacity self.old }
-        ensures order { Rising keyed (held self.old) → Rising keyed (held self.new) }
+        ensures order { Rising R.keyed (held self.old) → Rising R.keyed (held self.new) }
     {
         match self.locate(key) {
             Ok(at) => {
@@ -191,11 +191,11 @@ impl<'a, R: Record> Register<'a, R> {
 
     // Writes a record over the one with its key, and gives the old one; refused where there is none.
     pub fn replace(&mut self, record: R) -> Result<R, RegisterFault>
-        ensures done { Rising keyed (held self.old) → Replaced keyed (held self.old) (held self.new) «record» result }
-        ensures finds { Rising keyed (held self.old) → Finds keyed (keyed «record») (Some «record») (held self.old) (held self.new) result }
+        ensures done { Rising R.keyed (held self.old) → Replaced R.keyed (held self.old) (held self.new) «record» result }
+        ensures finds { Rising R.keyed (held self.old) → Finds R.keyed (R.keyed «record») (Some «record») (held self.old) (held self.new) result }
         ensures counts { Counts (length (held self.old)) (held self.old) (held self.new) result }
         ensures room { capacity self.new ≡ capacity self.old }
-        ensures order { Rising keyed (held self.old) → Rising keyed (held self.new) }
+        ensures order { Rising R.keyed (held self.old) → Rising R.keyed (held self.new) }
     {
         let Ok(at) = self.locate(record.key()) else {
             return Err(RegisterFault::Absent);

@@ -8,7 +8,7 @@ use Rattle.report.proofs.lines_width.Goals as goal
 pub loop-line-preserved : goal.loop-line-preserved
 loop-line-preserved c =
     let m = ap length (rows_more c.args.lines.now c.loop-line.line-index no_line c.loop-line-test.true) in
-    (omega (arith, c.loop-line.invariant.0, c.line-width.ensures.exact, simp length-append at m), omega (arith, c.loop-line.invariant.1, c.line-width.ensures.small))
+    (omega (arith, c.loop-line.invariant.0, c.line_width.ensures.exact, simp length-append at m), omega (arith, c.loop-line.invariant.1, c.line_width.ensures.small))
 
 pub returns : goal.returns
 returns c =

@@ -5,13 +5,13 @@ use Rattle.choice.proofs.Latest.{finding_other, finding_taken, finding_all}
 use Rattle.choice.proofs.testing.test_days.Goals as goal
 use Rattle.choice.proofs.testing.test_days.Goals.{then-loop-past-test+else-count-wanted, else-loop-past-test}
 
-pub loop-past-preserved-then-is-testing-day : goal.loop-past-preserved-then-is-testing-day
-loop-past-preserved-then-is-testing-day g c =
-    (omega arith, omega arith, λ o. finding_taken (c.loop-past.invariant.2 o) c.loop-past-test.true c.if-count-wanted.true (sym (c.if-is-testing-day.ensures o)))
+pub loop-past-preserved-then-is_testing_day : goal.loop-past-preserved-then-is_testing_day
+loop-past-preserved-then-is_testing_day g c =
+    (omega arith, omega arith, λ o. finding_taken (c.loop-past.invariant.2 o) c.loop-past-test.true c.if-count-wanted.true (sym (c.if-is_testing_day.ensures o)))
 
 pub loop-past-preserved : goal.loop-past-preserved
 loop-past-preserved g c =
-    (omega arith, omega arith, λ o. finding_other (c.loop-past.invariant.2 o) c.loop-past-test.true (sym (c.if-is-testing-day.ensures o)))
+    (omega arith, omega arith, λ o. finding_other (c.loop-past.invariant.2 o) c.loop-past-test.true (sym (c.if-is_testing_day.ensures o)))
 
 pub returns : goal.returns
 returns g c o =

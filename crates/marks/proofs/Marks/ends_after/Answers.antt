@@ -13,5 +13,5 @@ returns-in-Some c o =
     let e = c.in-Some.event in
     let n : slice_get es c.args.rank ≡ Some e = sym c.get.ensures ∙ c.in-Some.is in
     let l = nth_ends s.resolution s.days o.fit.1 es o.events o.placed o.apart c.args.rank e n in
-    let w : c.saturating-add.result ≡ end_of e = omega (arith, c.saturating-add.ensures) in
+    let w : c.saturating_add.result ≡ end_of e = omega (arith, c.saturating_add.ensures) in
     ap (ltb p) w ∙ sym (ap (ends_after p) n)

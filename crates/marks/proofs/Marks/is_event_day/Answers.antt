@@ -13,11 +13,11 @@ returns-in-Some c o =
     let t = c.intervals-intervals.ensures in
     let f = c.from.ensures in
     let m : c.from.result * c.intervals-intervals.result ≡ c.args.day * intervals_of s.resolution = cc in
-    let at : c.first-at-rank.result ≡ spot event_key (c.args.day * intervals_of s.resolution) (held s.events) =
-    c.first-at-rank.ensures.is o.events ∙ ap (λ k. spot event_key k (held s.events)) m in
-    let n : slice_get (held s.events) c.first-at-rank.result ≡ Some c.in-Some.event = cc in
+    let at : c.first_at-rank.result ≡ spot event_key (c.args.day * intervals_of s.resolution) (held s.events) =
+    c.first_at-rank.ensures.is o.events ∙ ap (λ k. spot event_key k (held s.events)) m in
+    let n : slice_get (held s.events) c.first_at-rank.result ≡ Some c.in-Some.event = cc in
     let e : eqb (c.in-Some.event.first / c.intervals-intervals.result) c.from-in-Some.result ≡ eqb (c.in-Some.event.first / intervals_of s.resolution) c.args.day = cc in
-    e ∙ sym (day_some s.resolution (held s.events) o.events c.args.day c.first-at-rank.result at c.in-Some.event n)
+    e ∙ sym (day_some s.resolution (held s.events) o.events c.args.day c.first_at-rank.result at c.in-Some.event n)
 
 pub returns-in-None : goal.returns-in-None
 returns-in-None c o =
@@ -25,7 +25,7 @@ returns-in-None c o =
     let t = c.intervals-intervals.ensures in
     let f = c.from.ensures in
     let m : c.from.result * c.intervals-intervals.result ≡ c.args.day * intervals_of s.resolution = cc in
-    let at : c.first-at-rank.result ≡ spot event_key (c.args.day * intervals_of s.resolution) (held s.events) =
-    c.first-at-rank.ensures.is o.events ∙ ap (λ k. spot event_key k (held s.events)) m in
-    let n : slice_get (held s.events) c.first-at-rank.result ≡ None = cc in
-    sym (day_none s.resolution (held s.events) o.events c.args.day c.first-at-rank.result at n)
+    let at : c.first_at-rank.result ≡ spot event_key (c.args.day * intervals_of s.resolution) (held s.events) =
+    c.first_at-rank.ensures.is o.events ∙ ap (λ k. spot event_key k (held s.events)) m in
+    let n : slice_get (held s.events) c.first_at-rank.result ≡ None = cc in
+    sym (day_none s.resolution (held s.events) o.events c.args.day c.first_at-rank.result at n)

@@ -11,6 +11,6 @@ returns c o =
     let s = c.args.self.now in
     let es = held s.events in
     let f = c.args.first in
-    let h : is_some (seek event_key f es) ≡ true = ap is_some (sym (c.event-at.ensures o)) ∙ c.is-none.ensures ∙ not_from_false c.is-none.result c.if-is-none.false in
+    let h : is_some (seek event_key f es) ≡ true = ap is_some (sym (c.event_at.ensures o)) ∙ c.is_none.ensures ∙ not_from_false c.is_none.result c.if-is_none.false in
     c.get.ensures
-    ∙ lead_stands s.resolution s.days o.fit.1 es o.events o.placed o.apart f c.first-at-rank.result c.lead-rank.result (c.first-at-rank.ensures.is o.events) (c.lead-rank.ensures o) h
+    ∙ lead_stands s.resolution s.days o.fit.1 es o.events o.placed o.apart f c.first_at-rank.result c.lead_rank.result (c.first_at-rank.ensures.is o.events) (c.lead_rank.ensures o) h

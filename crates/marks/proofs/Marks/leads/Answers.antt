@@ -12,10 +12,10 @@ returns-then-rank-eq0 c o h d =
     let es = held s.events in
     sym (ap (λ k. leads s.resolution es (get_or es k d)) c.if-rank-eq0.true ∙ leads_first s.resolution s.days o.fit.1 es o.events o.placed o.apart d)
 
-pub returns-in-default : goal.returns-in-default
-returns-in-default c o h d =
+pub returns-in_default : goal.returns-in_default
+returns-in_default c o h d =
     let n = slice_get-get_or (held c.args.self.now.events) c.args.rank d h in
-    let g = c.in-default.ensures in
+    let g = c.in_default.ensures in
     let z : ◌≡◌ {A = ℕ} 0 1 = cc in
     absurd (omega arith)
 
@@ -29,7 +29,7 @@ returns-in-Some-get c o h d =
     let p : slice_get es (i - 1) ≡ Some a = sym c.get-2.ensures ∙ c.in-Some-get.is in
     let q : slice_get es i ≡ Some b = sym c.get.ensures ∙ c.in-Some.is in
     let t = leads_after s.resolution s.days o.fit.1 es o.events o.placed o.apart i a b d (omega (arith, c.if-rank-eq0.false)) p q in
-    ap not (c.follows-closely.ensures t.0 t.1) ∙ sym t.2
+    ap not (c.follows_closely.ensures t.0 t.1) ∙ sym t.2
 
 pub returns-in-None : goal.returns-in-None
 returns-in-None c o h d =

@@ -15,7 +15,7 @@ returns-in-Ok c =
     let f = c.args.first in
     let h = c.in-Ok.ensures in
     record {
-      done = λ o. (sym (c.lift_fault.ensures o) ∙ c.in-default.is, (h.done o.events).1);
+      done = λ o. (sym (c.lift_fault.ensures o) ∙ c.in_default.is, (h.done o.events).1);
       rest = record { resolution = refl {a = r}; days = refl {a = s.days}; holidays = refl {a = days_in s.holidays}; exclusions = refl {a = days_in s.exclusions}; event_slots = h.room };
       order = λ o.
           let d = h.done o.events in

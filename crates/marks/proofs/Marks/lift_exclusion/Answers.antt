@@ -7,7 +7,7 @@ pub returns : goal.returns
 returns c =
     let s = c.args.self.now in
     record {
-      done = λ o. c.lift-in.ensures.done o.exclusions;
+      done = λ o. c.lift_in.ensures.done o.exclusions;
       rest = record { resolution = refl {a = s.resolution}; days = refl {a = s.days}; holidays = refl {a = days_in s.holidays}; events = refl {a = held s.events}; event_slots = refl {a = capacity s.events} };
-      order = λ o. record { fit = o.fit; holidays = o.holidays; exclusions = c.lift-in.ensures.order o.exclusions; events = o.events; placed = o.placed; apart = o.apart };
+      order = λ o. record { fit = o.fit; holidays = o.holidays; exclusions = c.lift_in.ensures.order o.exclusions; events = o.events; placed = o.placed; apart = o.apart };
     }

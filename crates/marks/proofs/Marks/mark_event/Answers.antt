@@ -14,8 +14,8 @@ returns-in-Ok c =
     let f = c.args.first in
     let n = c.args.count in
     let h = c.in-Ok.ensures in
-    let there : is_some (day_within (marking s) f) ≡ true = ap is_some (sym c.day-of.ensures) ∙ c.is-none.ensures ∙ not_from_false c.is-none.result c.if-is-none.false in
-    let ok : well_placed r f n ≡ true = sym c.lies-in-day.ensures ∙ c.if-not-lies-in-day.false in
+    let there : is_some (day_within (marking s) f) ≡ true = ap is_some (sym c.day_of.ensures) ∙ c.is_none.ensures ∙ not_from_false c.is_none.result c.if-is_none.false in
+    let ok : well_placed r f n ≡ true = sym c.lies_in_day.ensures ∙ c.if-not-lies_in_day.false in
     let meets : Orderly s → f + n < 4294967296 → false ≡ some_of (overlapping f n) es = λ o q. sym c.if-overlaps.false ∙ c.overlaps.ensures o q in
     record {
       done = λ o. (may_stand s f n o there ok (meets o) (h.done o.events).0, (h.done o.events).1);
@@ -42,8 +42,8 @@ returns-in-Err c =
     let f = c.args.first in
     let n = c.args.count in
     let h = c.in-Err.ensures in
-    let there : is_some (day_within (marking s) f) ≡ true = ap is_some (sym c.day-of.ensures) ∙ c.is-none.ensures ∙ not_from_false c.is-none.result c.if-is-none.false in
-    let ok : well_placed r f n ≡ true = sym c.lies-in-day.ensures ∙ c.if-not-lies-in-day.false in
+    let there : is_some (day_within (marking s) f) ≡ true = ap is_some (sym c.day_of.ensures) ∙ c.is_none.ensures ∙ not_from_false c.is_none.result c.if-is_none.false in
+    let ok : well_placed r f n ≡ true = sym c.lies_in_day.ensures ∙ c.if-not-lies_in_day.false in
     let meets : Orderly s → f + n < 4294967296 → false ≡ some_of (overlapping f n) es = λ o q. sym c.if-overlaps.false ∙ c.overlaps.ensures o q in
     record {
       done = λ o. (is_full s f n o there ok (meets o) c.in-Err.field-0 (h.done o.events).0, (h.done o.events).1);

@@ -5,16 +5,16 @@ use Rattle.marks.specs.Marked.{starts_before}
 use Rattle.marks.proofs.EventLists.{meets_next, meets_none, meets_last}
 use Rattle.marks.proofs.Marks.overlaps.Goals as goal
 
-pub returns-then-starts-before : goal.returns-then-starts-before
-returns-then-starts-before c o h =
+pub returns-then-starts_before : goal.returns-then-starts_before
+returns-then-starts_before c o h =
     let s = c.args.self.now in
     let es = held s.events in
     let f = c.args.first in
     let n = c.args.count in
-    let i = c.first-at-rank.result in
-    let e : c.saturating-add.result ≡ f + n = omega (arith, c.saturating-add.ensures) in
-    let t : starts_before (f + n) (slice_get es i) ≡ true = ap (λ p. starts_before p (slice_get es i)) (sym e) ∙ sym c.starts_before.ensures ∙ c.if-starts-before.true in
-    sym (meets_next s.resolution s.days o.fit.1 es o.events o.placed o.apart f n i (c.first-at-rank.ensures.is o.events) t)
+    let i = c.first_at-rank.result in
+    let e : c.saturating_add.result ≡ f + n = omega (arith, c.saturating_add.ensures) in
+    let t : starts_before (f + n) (slice_get es i) ≡ true = ap (λ p. starts_before p (slice_get es i)) (sym e) ∙ sym c.starts_before.ensures ∙ c.if-starts_before.true in
+    sym (meets_next s.resolution s.days o.fit.1 es o.events o.placed o.apart f n i (c.first_at-rank.ensures.is o.events) t)
 
 pub returns-then-rank-eq0 : goal.returns-then-rank-eq0
 returns-then-rank-eq0 c o h =
@@ -22,10 +22,10 @@ returns-then-rank-eq0 c o h =
     let es = held s.events in
     let f = c.args.first in
     let n = c.args.count in
-    let i = c.first-at-rank.result in
-    let e : c.saturating-add.result ≡ f + n = omega (arith, c.saturating-add.ensures) in
-    let t : starts_before (f + n) (slice_get es i) ≡ false = ap (λ p. starts_before p (slice_get es i)) (sym e) ∙ sym c.starts_before.ensures ∙ c.if-starts-before.false in
-    sym (meets_none s.resolution s.days o.fit.1 es o.events o.placed o.apart f n i (c.first-at-rank.ensures.is o.events) t c.if-rank-eq0.true)
+    let i = c.first_at-rank.result in
+    let e : c.saturating_add.result ≡ f + n = omega (arith, c.saturating_add.ensures) in
+    let t : starts_before (f + n) (slice_get es i) ≡ false = ap (λ p. starts_before p (slice_get es i)) (sym e) ∙ sym c.starts_before.ensures ∙ c.if-starts_before.false in
+    sym (meets_none s.resolution s.days o.fit.1 es o.events o.placed o.apart f n i (c.first_at-rank.ensures.is o.events) t c.if-rank-eq0.true)
 
 pub returns : goal.returns
 returns c o h =
@@ -33,7 +33,7 @@ returns c o h =
     let es = held s.events in
     let f = c.args.first in
     let n = c.args.count in
-    let i = c.first-at-rank.result in
-    let e : c.saturating-add.result ≡ f + n = omega (arith, c.saturating-add.ensures) in
-    let t : starts_before (f + n) (slice_get es i) ≡ false = ap (λ p. starts_before p (slice_get es i)) (sym e) ∙ sym c.starts_before.ensures ∙ c.if-starts-before.false in
-    c.ends_after.ensures o ∙ sym (meets_last s.resolution s.days o.fit.1 es o.events o.placed o.apart f n i (c.first-at-rank.ensures.is o.events) t (omega (arith, c.if-rank-eq0.false)) c.first-at-rank.ensures.within)
+    let i = c.first_at-rank.result in
+    let e : c.saturating_add.result ≡ f + n = omega (arith, c.saturating_add.ensures) in
+    let t : starts_before (f + n) (slice_get es i) ≡ false = ap (λ p. starts_before p (slice_get es i)) (sym e) ∙ sym c.starts_before.ensures ∙ c.if-starts_before.false in
+    c.ends_after.ensures o ∙ sym (meets_last s.resolution s.days o.fit.1 es o.events o.placed o.apart f n i (c.first_at-rank.ensures.is o.events) t (omega (arith, c.if-rank-eq0.false)) c.first_at-rank.ensures.within)

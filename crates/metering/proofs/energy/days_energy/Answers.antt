@@ -12,8 +12,8 @@ loop-day-preserved g c =
     let i = c.loop-day.day-index in
     let days = c.days-days.result.now in
     let lt : i < length days = omega arith in
-    let e : c.stretch-energy-sum.result ≡ f (get_or days i 0) = c.stretch-energy-sum.ensures.is in
-    (omega (arith, e, c.loop-day.invariant.0, sum_by_more f days i 0 lt), omega (arith, c.stretch-energy-sum.ensures.most, c.loop-day.invariant.1))
+    let e : c.stretch_energy-sum.result ≡ f (get_or days i 0) = c.stretch_energy-sum.ensures.is in
+    (omega (arith, e, c.loop-day.invariant.0, sum_by_more f days i 0 lt), omega (arith, c.stretch_energy-sum.ensures.most, c.loop-day.invariant.1))
 
 pub returns : goal.returns
 returns g c =

@@ -8,6 +8,6 @@ loop-i-preserved g c =
     let at = (g.S.Store.meaning c.args.store.now).at in
     let q = c.args.place in
     let u = c.args.unit in
-    let e = c.energy-of-sum.ensures.is in
-    let k : c.energy-of-sum.result ≡ energy_of (at (u.first + c.loop-i.i) q) = e ∙ ap energy_of c.read-reading.ensures in
-    (omega (arith, k, c.loop-i.invariant.0, sum_more (λ p. energy_of (at p q)) u.first c.loop-i.i), omega (arith, c.energy-of-sum.ensures.most, c.loop-i.invariant.1))
+    let e = c.energy_of-sum.ensures.is in
+    let k : c.energy_of-sum.result ≡ energy_of (at (u.first + c.loop-i.i) q) = e ∙ ap energy_of c.read-reading.ensures in
+    (omega (arith, k, c.loop-i.invariant.0, sum_more (λ p. energy_of (at p q)) u.first c.loop-i.i), omega (arith, c.energy_of-sum.ensures.most, c.loop-i.invariant.1))

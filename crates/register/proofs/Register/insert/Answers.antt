@@ -29,14 +29,14 @@ returns-else-used-self g c =
     let l = c.in-Err.ensures in
     let xs = held s in
     let n = c.len-used.result in
-    let ys = take (n + 1) c.put-in.new.slots in
+    let ys = take (n + 1) c.put_in.new.slots in
     let f : take n s.slots.now ≡ xs = ap (λ m. take m s.slots.now) c.len-used.ensures.is ∙ front_all s.used s.slots.now in
-    let w : ys ≡ insert xs at x = subst (λ r. ys ≡ insert r at x) f c.put-in.ensures in
+    let w : ys ≡ insert xs at x = subst (λ r. ys ≡ insert r at x) f c.put_in.ensures in
     let lt : length xs < capacity s = omega arith in
     record {
       done = put_done key xs ys at x k e l.0 l.1 w (capacity s) lt;
       finds = put_finds key xs ys at x k e l.0 l.1 w;
       counts = put_counts key xs ys at x k e l.0 l.1 w;
-      room = c.put-in.auto.slots;
+      room = c.put_in.auto.slots;
       order = put_order key xs ys at x k e l.0 l.1 w;
     }

@@ -8,14 +8,14 @@ use Rattle.register.proofs.Register.replace.Goals as goal
 pub bounds-self-at : goal.bounds-self-at
 bounds-self-at g c = front_in c.args.self.now.used c.args.self.now.slots.now c.in-Ok.at c.in-Ok.ensures.0
 
-pub offset-bounds-self-at : goal.offset-bounds-self-at
-offset-bounds-self-at g c = let h = front_in c.args.self.now.used c.args.self.now.slots.now c.in-Ok.at c.in-Ok.ensures.0 in search rules
+pub offset_bounds-self-at : goal.offset_bounds-self-at
+offset_bounds-self-at g c = let h = front_in c.args.self.now.used c.args.self.now.slots.now c.in-Ok.at c.in-Ok.ensures.0 in search rules
 
 pub bounds-self-at-2 : goal.bounds-self-at-2
 bounds-self-at-2 g c = front_in c.args.self.now.used c.args.self.now.slots.now c.in-Ok.at c.in-Ok.ensures.0
 
-pub offset-bounds-self-at-2 : goal.offset-bounds-self-at-2
-offset-bounds-self-at-2 g c = let h = front_in c.args.self.now.used c.args.self.now.slots.now c.in-Ok.at c.in-Ok.ensures.0 in search rules
+pub offset_bounds-self-at-2 : goal.offset_bounds-self-at-2
+offset_bounds-self-at-2 g c = let h = front_in c.args.self.now.used c.args.self.now.slots.now c.in-Ok.at c.in-Ok.ensures.0 in search rules
 
 pub returns : goal.returns
 returns g c =

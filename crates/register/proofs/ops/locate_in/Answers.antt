@@ -8,10 +8,10 @@ returns-else-at-list g c =
     let key = g.R.Record.keyed in
     let k = c.args.key in
     let xs = c.args.list.now in
-    let at = c.spot-in-at.result in (
-      c.spot-in-at.ensures.within,
+    let at = c.spot_in-at.result in (
+      c.spot_in-at.ensures.within,
       λ rise.
-          let is = c.spot-in-at.ensures.is rise in (
+          let is = c.spot_in-at.ensures.is rise in (
             is,
             elim c.else-at-list.branch [
               | else-at-list-via-then-at-list+else-key w ↦ not_at key k xs rise at w.index-list-at.result is (λ e. w.if-key.false (w.key.ensures ∙ ap key w.index-list-at.is ∙ e))

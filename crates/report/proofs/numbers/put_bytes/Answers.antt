@@ -8,4 +8,4 @@ placed text part last at f =
     ap (λ n. put_mid at n text last) k ∙ ap (λ ys. take at text ++ (ys ++ drop (length part) (drop at text))) f ∙ ap (λ r. take at text ++ (part ++ r)) (drop-drop (length part) at text)
 
 pub returns : goal.returns
-returns c = record { whole = placed c.args.text.now c.args.bytes.now _ c.args.at c.copy-from-slice.ensures.after; place = refl }
+returns c = record { whole = placed c.args.text.now c.args.bytes.now _ c.args.at c.copy_from_slice.ensures.after; place = refl }

@@ -6,8 +6,8 @@ use Rattle.settlement.specs.Plans.{terms_of}
 use Rattle.settlement.proofs.Fills.{filled_more, reductions_more}
 use Rattle.settlement.proofs.settling.fill.Goals as goal
 
-pub line-at-line-requires : goal.line-at-line-requires
-line-at-line-requires g c = record { past = c.adjust-adjustment.ensures.past; present = c.adjust-adjustment.ensures.present; usable = c.requires.usable c.loop-i.i c.loop-i-test.true }
+pub line_at-line-requires : goal.line_at-line-requires
+line_at-line-requires g c = record { past = c.adjust-adjustment.ensures.past; present = c.adjust-adjustment.ensures.present; usable = c.requires.usable c.loop-i.i c.loop-i-test.true }
 
 pub loop-i-preserved : goal.loop-i-preserved
 loop-i-preserved g c =
@@ -16,11 +16,11 @@ loop-i-preserved g c =
     let s = c.args.plan.now.event.first in
     let i = c.loop-i.i in
     let lt : i < length c.args.lines.now = omega (arith, c.requires.room, c.loop-i-test.true) in
-    let is : c.line-at-line.result ≡ f (s + i) = c.line-at-line.ensures.is in
-    let r : c.line-at-line.result.reduction ≡ (f (s + i)).reduction = ap (λ (l : Line). l.reduction) is in
+    let is : c.line_at-line.result ≡ f (s + i) = c.line_at-line.ensures.is in
+    let r : c.line_at-line.result.reduction ≡ (f (s + i)).reduction = ap (λ (l : Line). l.reduction) is in
     let m = reductions_more f s i in (
-      filled_more f s i c.loop-i.lines c.args.lines.now c.line-at-line.result lt c.loop-i.invariant.0 is,
-      omega (arith, ints, r, m, c.loop-i.invariant.1, c.loop-i.invariant.2, c.loop-i.invariant.3, c.line-at-line.ensures.low, c.line-at-line.ensures.high, c.from-sum.ensures),
-      omega (arith, ints, c.loop-i.invariant.2, c.loop-i.invariant.3, c.line-at-line.ensures.low, c.line-at-line.ensures.high, c.from-sum.ensures),
-      omega (arith, ints, c.loop-i.invariant.2, c.loop-i.invariant.3, c.line-at-line.ensures.low, c.line-at-line.ensures.high, c.from-sum.ensures),
+      filled_more f s i c.loop-i.lines c.args.lines.now c.line_at-line.result lt c.loop-i.invariant.0 is,
+      omega (arith, ints, r, m, c.loop-i.invariant.1, c.loop-i.invariant.2, c.loop-i.invariant.3, c.line_at-line.ensures.low, c.line_at-line.ensures.high, c.from-sum.ensures),
+      omega (arith, ints, c.loop-i.invariant.2, c.loop-i.invariant.3, c.line_at-line.ensures.low, c.line_at-line.ensures.high, c.from-sum.ensures),
+      omega (arith, ints, c.loop-i.invariant.2, c.loop-i.invariant.3, c.line_at-line.ensures.low, c.line_at-line.ensures.high, c.from-sum.ensures),
     )

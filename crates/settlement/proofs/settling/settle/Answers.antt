@@ -19,7 +19,7 @@ fill-sum-requires g c =
     record {
       room = omega (arith, c.if-lines-from.false, c.from.ensures);
       usable = λ i h. record {
-        sound = usable (g.S.Store.meaning c.args.store.now).at u.first u.count x c.in-ok-try-sources.ensures i n m h;
-        low = metered_low (g.S.Store.meaning c.args.store.now).at u.first u.count x c.in-ok-try-sources.ensures i h;
+        sound = usable (g.S.Store.meaning c.args.store.now).at u.first u.count x c.in-ok-try_sources.ensures i n m h;
+        low = metered_low (g.S.Store.meaning c.args.store.now).at u.first u.count x c.in-ok-try_sources.ensures i h;
       };
     }

@@ -12,20 +12,20 @@ of e hn hm = sizes _ _ _ _ _ hn hm (sound e)
 abbrev additive : Energies → ℤ
 additive e = additive_of e.v e.w e.a e.n e.m
 
-pub overflow-add-sum : goal.overflow-add-sum
-overflow-add-sum c = let z = of c.args.e.now (search rules) (search rules) in omega (arith, ints)
+pub overflow_add-sum : goal.overflow_add-sum
+overflow_add-sum c = let z = of c.args.e.now (search rules) (search rules) in omega (arith, ints)
 
-pub overflow-cast-sum : goal.overflow-cast-sum
-overflow-cast-sum c = let z = of c.args.e.now (search rules) (search rules) in omega (arith, ints)
+pub overflow_cast-sum : goal.overflow_cast-sum
+overflow_cast-sum c = let z = of c.args.e.now (search rules) (search rules) in omega (arith, ints)
 
-pub overflow-sub-sum : goal.overflow-sub-sum
-overflow-sub-sum c = let z = of c.args.e.now (search rules) (search rules) in omega (arith, ints)
+pub overflow_sub-sum : goal.overflow_sub-sum
+overflow_sub-sum c = let z = of c.args.e.now (search rules) (search rules) in omega (arith, ints)
 
-pub rounded-down-requires : goal.rounded-down-requires
-rounded-down-requires c = let z = of c.args.e.now (search rules) (search rules) in omega (arith, ints)
+pub rounded_down-requires : goal.rounded_down-requires
+rounded_down-requires c = let z = of c.args.e.now (search rules) (search rules) in omega (arith, ints)
 
 -- the quotient is the additive baseline, within its bounds
-value : (c : goal.After-rounded-down) → c.rounded-down.result ≡ additive c.args.e.now
+value : (c : goal.After-rounded_down) → c.rounded_down.result ≡ additive c.args.e.now
 value c =
     let e = c.args.e.now in
     let z = of e (search rules) (search rules) in
@@ -34,16 +34,16 @@ value c =
     let t : to_z w64 e.w ≡ pos e.w = to_z_pos w64 e.w (omega arith) in
     let f : SFits w64 (pos (e.m * e.v + e.n * e.a) -ℤ pos e.w) = omega (arith, ints) in
     let u = to_z-of_z w64 (pos (e.m * e.v + e.n * e.a) -ℤ pos e.w) f in
-    simp (s, t, d, u) at c.rounded-down.ensures
+    simp (s, t, d, u) at c.rounded_down.ensures
 
-bounds : (c : goal.After-rounded-down) → (negsuc 4999 ≤ℤ c.rounded-down.result) × (c.rounded-down.result ≤ℤ pos 10000)
+bounds : (c : goal.After-rounded_down) → (negsuc 4999 ≤ℤ c.rounded_down.result) × (c.rounded_down.result ≤ℤ pos 10000)
 bounds c = rw (value c) (within _ _ _ _ _ (sound c.args.e.now))
 
-pub overflow-cast-result : goal.overflow-cast-result
-overflow-cast-result c = let b = bounds c in omega (arith, ints)
+pub overflow_cast-result : goal.overflow_cast-result
+overflow_cast-result c = let b = bounds c in omega (arith, ints)
 
 pub returns : goal.returns
 returns c =
     let b = bounds c in
-    let same : to_z w32 (of_z w32 (to_z w64 (of_z w64 c.rounded-down.result))) ≡ c.rounded-down.result = omega (arith, ints) in
+    let same : to_z w32 (of_z w32 (to_z w64 (of_z w64 c.rounded_down.result))) ≡ c.rounded_down.result = omega (arith, ints) in
     record { value = same ∙ value c; bounds = rw same b }

@@ -6,16 +6,11 @@ use Rattle.sparse.specs.Places.{place_of}
 use Rattle.sparse.proofs.Changes.{placed_after, fitting_none, voided}
 use Rattle.sparse.proofs.ops.SparseStore.void.Goals as goal
 
-pub invariant-of-self : goal.invariant-of-self
-invariant-of-self c =
+pub invariant_of-self : goal.invariant_of-self
+invariant_of-self c =
     let s = c.args.self.now in
-    let q = c.args.place in (
-      s.wide,
-      (
-        c.remove.ensures.order s.rising,
-        (placed_after s.span q None (held s.readings) (held c.remove.new.self) c.remove.result (c.remove.ensures.finds s.rising) (fitting_none s.span q) s.placed, tt),
-      ),
-    )
+    let q = c.args.place in
+    record { wide = s.wide; rising = c.remove.ensures.order s.rising; placed = placed_after s.span q None (held s.readings) (held c.remove.new.self) c.remove.result (c.remove.ensures.finds s.rising) (fitting_none s.span q) s.placed }
 
 pub returns-in-Ok : goal.returns-in-Ok
 returns-in-Ok c =
