@@ -8,7 +8,7 @@ FIXED = [
     "overflow_add", "overflow_sub", "overflow_mul", "overflow_cast", "overflow_neg", "offset_bounds", "type_inv",
     "copy_within", "saturating_add", "saturating_sub", "saturating_mul", "from_residual", "extend_from_slice",
     "from_be_bytes", "count_ones", "checked_sub", "checked_add", "as_bytes", "as_slice", "as_mut_slice", "is_none",
-    "is_some", "is_ok", "is_err", "is_empty", "div_euclid", "rem_euclid", "invariant_of", "in_default", "overflow_shl", "overflow_shr", "overflow_div", "unwrap_or", "copy_from_slice", "zero_divisor",
+    "is_some", "is_ok", "is_err", "is_empty", "div_euclid", "rem_euclid", "invariant_of", "in_default", "in_ok", "in_err", "overflow_shl", "overflow_shr", "overflow_div", "unwrap_or", "copy_from_slice", "zero_divisor",
 ]
 TOKEN = r"[^\s(){}\[\].,;:λ→×≡⊎≤]+"
 

@@ -6,15 +6,15 @@ use Rattle.metering.proofs.Trials.{tried_on}
 use Rattle.settlement.proofs.Sources.{first_front, tried_rest}
 use Rattle.settlement.proofs.settling.try_day.Goals as goal
 
-pub returns-in-err-try_stretch : goal.returns-in-err-try_stretch
-returns-in-err-try_stretch g c =
+pub returns-in_err-try_stretch : goal.returns-in_err-try_stretch
+returns-in_err-try_stretch g c =
     let u = c.args.unit in
     let p = c.args.plan.now in
     let f : ℕ → Option SourceFault = trouble_at (g.S.Store.meaning c.args.store.now).at u.first u.count in
     let t = intervals_of p.resolution in
-    let e = c.in-err-try_stretch.field-0.0 in
+    let e = c.in_err-try_stretch.field-0.0 in
     tried_on c.from_residual.result e _ c.from_residual.ensures.1
-    (first_front f (places t c.args.day p.window.first p.window.count) (places t c.args.day p.event.first p.event.count) e c.in-err-try_stretch.ensures)
+    (first_front f (places t c.args.day p.window.first p.window.count) (places t c.args.day p.event.first p.event.count) e c.in_err-try_stretch.ensures)
 
 pub returns : goal.returns
 returns g c =
@@ -22,4 +22,4 @@ returns g c =
     let p = c.args.plan.now in
     let f : ℕ → Option SourceFault = trouble_at (g.S.Store.meaning c.args.store.now).at u.first u.count in
     let t = intervals_of p.resolution in
-    tried_rest f c.try_stretch-2.result (places t c.args.day p.window.first p.window.count) (places t c.args.day p.event.first p.event.count) c.in-ok-try_stretch.ensures c.try_stretch-2.ensures
+    tried_rest f c.try_stretch-2.result (places t c.args.day p.window.first p.window.count) (places t c.args.day p.event.first p.event.count) c.in_ok-try_stretch.ensures c.try_stretch-2.ensures

@@ -10,16 +10,16 @@ use Rattle.settlement.specs.Plans.{terms_of}
 use Rattle.settlement.proofs.Sources.{first_take, first_at, first_joined, first_rest}
 use Rattle.settlement.proofs.settling.try_sources.Goals as goal
 
-pub returns-in-err-try_day : goal.returns-in-err-try_day
-returns-in-err-try_day g c =
+pub returns-in_err-try_day : goal.returns-in_err-try_day
+returns-in_err-try_day g c =
     let u = c.args.unit in
     let x : Terms = terms_of c.args.plan.now in
     let f : ℕ → Option SourceFault = trouble_at (g.S.Store.meaning c.args.store.now).at u.first u.count in
     let F : ℕ → Option SourceFault = λ d. first_in f (day_sources x d) in
     let days = c.days-day-items.result.now in
-    let e = c.in-err-try_day.field-0.0 in
+    let e = c.in_err-try_day.field-0.0 in
     let lt : c.loop-day.day-index < length days = omega arith in
-    let w : first_in F (days ++ (x.day ∷ [])) ≡ Some e = first_at F days (x.day ∷ []) c.loop-day.day-index 0 e lt c.loop-day.invariant c.in-err-try_day.ensures in
+    let w : first_in F (days ++ (x.day ∷ [])) ≡ Some e = first_at F days (x.day ∷ []) c.loop-day.day-index 0 e lt c.loop-day.invariant c.in_err-try_day.ensures in
     tried_on c.from_residual.result e _ c.from_residual.ensures.1
     (first_joined f (day_sources x) (x.days ++ (x.day ∷ [])) ∙ ap (λ ds. first_in F (ds ++ (x.day ∷ []))) (sym c.days-day-items.ensures.is) ∙ w)
 
@@ -31,7 +31,7 @@ loop-day-preserved g c =
     let F : ℕ → Option SourceFault = λ d. first_in f (day_sources x d) in
     let days = c.days-day-items.result.now in
     let lt : c.loop-day.day-index < length days = omega arith in
-    first_take F days c.loop-day.day-index 0 lt c.loop-day.invariant c.in-ok-try_day.ensures
+    first_take F days c.loop-day.day-index 0 lt c.loop-day.invariant c.in_ok-try_day.ensures
 
 pub returns : goal.returns
 returns g c =
