@@ -1,5 +1,5 @@
 -- What a mark makes of a book, and what is answered, is fixed. Assumes nothing.
-use Rattle.std.proofs.Common.{◌≡◌, ℕ, ◌+◌, Some, None, Ok, Err, Option, Result, sym, refl, ◌∙◌, arith}
+use Rattle.std.proofs.Common.{◌≡◌, ℕ, Some, None, Ok, Err, Option, Result, sym, refl, ◌∙◌, arith}
 use mathlib.Core.Path.{fun_ext}
 use Rattle.marks.specs.declared.MarkFault.{MarkFault}
 use Rattle.marks.specs.Marked.{DaySet, Marking, DayMarked, EventMarked, SameButHolidays, SameButExclusions, SameButEvents}

@@ -1,5 +1,5 @@
 -- A trial that stopped, and one of two that follow one another. Assumes nothing.
-use Rattle.std.proofs.Common.{◌≡◌, IsErrAnd, Some, None, Ok, Err, Option, Result, sym, refl, ap, ◌∙◌, subst}
+use Rattle.std.proofs.Common.{◌≡◌, IsErrAnd, Some, Option, Result, sym, ap, ◌∙◌, subst}
 use Rattle.std.proofs.lemmas.Result.{err_from_is_err_and}
 use Rattle.metering.specs.Trial.{Tried}
 

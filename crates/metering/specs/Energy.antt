@@ -1,5 +1,5 @@
 -- What a unit used, and which of its sources cannot be used. These speak of readings by point and place alone. Assumes nothing.
-use Rattle.std.specs.Prelude.{◌≡◌, ℕ, ◌+◌, ◌*◌, ◌≤◌, Bool, cond, ◌&&◌, List, [], ◌∷◌, ◌++◌, is_some, Some, None, sum_by, Option, nat_le}
+use Rattle.std.specs.Prelude.{ℕ, ◌+◌, ◌*◌, Bool, cond, ◌&&◌, List, [], ◌∷◌, is_some, Some, None, sum_by, Option, nat_le}
 use Rattle.std.specs.List.{range_with_len}
 use Rattle.refusal.specs.Refusals.{Refusal}
 use Rattle.store.specs.declared.Reading.{Reading}

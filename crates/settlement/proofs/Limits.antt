@@ -8,7 +8,7 @@ use Rattle.method.specs.Energy.{Sound}
 use Rattle.metering.specs.Sums.{or_else, first_in}
 use Rattle.metering.specs.declared.SourceFault.{SourceFault}
 use Rattle.metering.specs.Energy.{energy_at, missing_at, trouble_at, places}
-use Rattle.settlement.specs.Lines.{Terms, chosen_days, day_sources, sources, trouble, used, used_before, VOf, WOf, AOf}
+use Rattle.settlement.specs.Lines.{Terms, chosen_days, day_sources, sources, trouble, used, VOf, WOf, AOf}
 
 -- neither of two is some
 or_parts : {Y : Type 0} (o p : Option Y) → or_else o p ≡ None → (o ≡ None) × (p ≡ None)

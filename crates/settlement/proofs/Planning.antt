@@ -1,7 +1,6 @@
 -- What a plan is made of is what the terms say. Assumes nothing.
 use Rattle.std.proofs.Common.{◌≡◌, ℕ, ◌%◌, ◌<◌, ◌≤◌, Bool, true, false, cond, ltb, leb, List, length, is_some, Some, None, Option, sym, refl, ap, ◌∙◌, subst, arith, leb-true}
 use Rattle.std.proofs.lemmas.Bool.{lt-ltb, le-leb}
-use Rattle.std.proofs.lemmas.Bool.Decides.{nat_tests}
 use Rattle.calendar.specs.Days.{intervals_of, window_start, window_length}
 use Rattle.marks.specs.declared.Event.{Event}
 use Rattle.marks.specs.Marked.{Marking, day_in, kind_in, lead_of}
@@ -9,7 +8,6 @@ use Rattle.calendar.specs.declared.Resolution.{Resolution}
 use Rattle.calendar.specs.declared.Resolution.TheVariants.{HalfHours, FiveMinutes}
 use Rattle.method.specs.Rules.{Rules, Lawful}
 use Rattle.choice.specs.Choice.{selected_days}
-use Rattle.settlement.specs.declared.SettleFault.{SettleFault}
 use Rattle.settlement.specs.declared.SettleFault.TheVariants.{NoEvent, NotServed, TooFewDays}
 use Rattle.settlement.specs.Lines.{Terms, chosen_days}
 use Rattle.settlement.specs.Settles.{event_in, count_of, lead_place, terms, day_cause, plan_cause}

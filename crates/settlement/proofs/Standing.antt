@@ -1,10 +1,10 @@
 -- An event that stands in a book lies on one of its days, and has no more intervals than a day. Assumes nothing.
-use Rattle.std.proofs.Common.{◌≡◌, ℕ, ◌+◌, ◌%◌, ◌<◌, ◌≤◌, Bool, true, false, ◌&&◌, Some, None, sym, refl, ap, ◌∙◌, subst, arith, ltb-true}
+use Rattle.std.proofs.Common.{◌≡◌, ℕ, ◌<◌, ◌≤◌, Bool, true, false, ◌&&◌, Some, sym, refl, subst, arith, ltb-true}
 use Rattle.std.proofs.lemmas.Bool.Decides.{nat_tests}
 use Rattle.calendar.specs.declared.Resolution.{Resolution}
 use Rattle.calendar.specs.declared.Resolution.TheVariants.{HalfHours, FiveMinutes}
 use Rattle.register.specs.Held.{held}
-use Rattle.register.specs.Order.{seek, spot}
+use Rattle.register.specs.Order.{spot}
 use Rattle.register.proofs.Lookups.{seek_key, seek_some}
 use Rattle.marks.specs.declared.Event.{Event}
 use Rattle.marks.specs.Keys.{event_key}

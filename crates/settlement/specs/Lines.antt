@@ -1,5 +1,5 @@
 -- What the lines of a settled event hold, over readings alone. Assumes nothing.
-use Rattle.std.specs.Prelude.{◌≡◌, ℕ, ◌+◌, ◌*◌, ◌≤◌, List, [], ◌∷◌, ◌++◌, map, length, ℤ, pos, ◌+ℤ◌, ◌-ℤ◌, fold, sum_by, Option}
+use Rattle.std.specs.Prelude.{ℕ, ◌+◌, ◌*◌, ◌≤◌, List, [], ◌∷◌, ◌++◌, map, length, ℤ, pos, ◌+ℤ◌, ◌-ℤ◌, fold, sum_by, Option}
 use Rattle.std.specs.List.{range_with_len, flat_map}
 use Rattle.store.specs.Meaning.{Readings}
 use Rattle.method.specs.Energy.{Sound}

@@ -1,5 +1,5 @@
 -- What settling answers: the causes in their order, and the lines. It speaks of readings, marks and rules alone. Assumes nothing.
-use Rattle.std.specs.Prelude.{◌≡◌, ℕ, ◌%◌, Bool, cond, List, ◌++◌, length, drop, is_some, Some, None, Ok, Err, Option, Result, MatchResult, nat_le}
+use Rattle.std.specs.Prelude.{◌≡◌, ℕ, ◌%◌, cond, List, ◌++◌, length, drop, is_some, Some, None, Option, Result, MatchResult, nat_le}
 use Rattle.calendar.specs.Days.{intervals_of, window_start, window_length}
 use Rattle.register.specs.Order.{seek}
 use Rattle.store.specs.Meaning.{Readings}

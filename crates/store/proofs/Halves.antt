@@ -1,5 +1,5 @@
 -- What a change of the second of two stores does to the pair. Assumes nothing.
-use Rattle.std.proofs.Common.{◌≡◌, ℕ, ◌-◌, ◌<◌, ◌≤◌, Ok, Err, Option, Result, ap, arith, rules}
+use Rattle.std.proofs.Common.{ℕ, ◌-◌, ◌<◌, ◌≤◌, Ok, Err, Option, Result, ap, arith, rules}
 use Rattle.std.proofs.lemmas.Bool.Decides.{nat_tests}
 use Rattle.store.specs.declared.Reading.{Reading}
 use Rattle.store.specs.declared.StoreFault.{StoreFault}

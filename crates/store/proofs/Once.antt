@@ -1,10 +1,10 @@
 -- What entering or voiding makes of a store, and what it answers, is fixed. Assumes nothing.
-use Rattle.std.proofs.Common.{◌≡◌, ℕ, ◌⊎◌, Some, None, Ok, Err, Option, Result, sym, refl, ◌∙◌, inl, inr, arith}
+use Rattle.std.proofs.Common.{◌≡◌, ℕ, ◌⊎◌, Some, Ok, Err, Option, Result, sym, refl, ◌∙◌, inl, inr, arith}
 use mathlib.Core.Path.{fun_ext}
 use Rattle.std.proofs.lemmas.Bool.{cases_eq}
 use Rattle.store.specs.declared.Reading.{Reading}
 use Rattle.store.specs.declared.StoreFault.{StoreFault}
-use Rattle.store.specs.Meaning.{Meaning, Changed, Entered, entry_fault}
+use Rattle.store.specs.Meaning.{Meaning, Changed, Entered}
 
 -- two meanings that agree in each part are one
 pub same_meaning : (a b : Meaning) → a.points ≡ b.points → a.span ≡ b.span → ((p q : ℕ) → a.at p q ≡ b.at p q) → ((p : ℕ) → a.free p ≡ b.free p) → a ≡ b

@@ -1,5 +1,5 @@
 -- What a meter store holds, and what entering and voiding do to it. Assumes nothing.
-use Rattle.std.specs.Prelude.{◌≡◌, ℕ, ◌+◌, ◌-◌, ◌≤◌, Bool, true, false, cond, ◌&&◌, is_some, Some, None, Option, Result, MatchResult, ◌≢◌, nat_le, nat_lt}
+use Rattle.std.specs.Prelude.{◌≡◌, ℕ, ◌+◌, ◌-◌, ◌≤◌, Bool, cond, ◌&&◌, is_some, Some, None, Option, Result, MatchResult, ◌≢◌, nat_le, nat_lt}
 use Rattle.refusal.specs.Refusals.{Refusal, plain}
 use Rattle.store.specs.declared.Reading.{Reading}
 use Rattle.store.specs.declared.StoreFault.{StoreFault}

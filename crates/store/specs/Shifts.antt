@@ -1,5 +1,5 @@
 -- A store whose place p is place p + k of the one below. Assumes nothing.
-use Rattle.std.specs.Prelude.{◌≡◌, ℕ, ◌+◌, ◌-◌, ◌≤◌, Bool, cond, Some, None, Option, nat_le}
+use Rattle.std.specs.Prelude.{ℕ, ◌+◌, ◌-◌, cond, Some, None, Option, nat_le}
 use Rattle.std.proofs.Common.{arith}
 use Rattle.refusal.specs.declared.MakeFault.{MakeFault}
 use Rattle.refusal.specs.declared.MakeFault.TheVariants.{Limits}

@@ -4,7 +4,6 @@ use Rattle.std.proofs.lemmas.List.{get_or-set_same, get_or-set_other}
 use Rattle.std.proofs.lemmas.Bool.{cases_eq, and_parts, and_from, ltb-true, lt-ltb, le-leb}
 use Rattle.store.specs.Meaning.{Meaning, Changed, entry_fault, void_fault}
 use Rattle.store.specs.declared.Reading.{Reading}
-use Rattle.store.specs.declared.StoreFault.{StoreFault}
 use Rattle.store.specs.declared.StoreFault.TheVariants.{Beyond, TooLarge, Full, Nothing}
 use Rattle.table.specs.Presence.{bit, clear}
 use Rattle.table.specs.Grid.{grid, reading_at, Small, Empty}

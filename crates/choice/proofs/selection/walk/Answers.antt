@@ -1,4 +1,4 @@
-use Rattle.std.proofs.Common.{sym, ap, ◌∙◌, inl, inr, arith}
+use Rattle.std.proofs.Common.{sym, ◌∙◌, inl, inr, arith}
 use Rattle.marks.specs.Marked.{marking}
 use Rattle.choice.proofs.Steps.{walking_other, walking_skipped, walking_taken, walking_all}
 use Rattle.choice.proofs.Draws.{at_kind, drawn}

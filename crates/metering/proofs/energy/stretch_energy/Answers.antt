@@ -1,4 +1,4 @@
-use Rattle.std.proofs.Common.{◌≡◌, ℕ, ◌+◌, ◌*◌, sym, ap, ◌∙◌, arith}
+use Rattle.std.proofs.Common.{◌≡◌, ℕ, ◌+◌, ap, ◌∙◌, arith}
 use Rattle.metering.specs.Energy.{energy_at}
 use Rattle.metering.proofs.Runs.{sum_more}
 use Rattle.metering.proofs.energy.stretch_energy.Goals as goal

@@ -1,5 +1,5 @@
-use Rattle.std.proofs.Common.{◌≡◌, ◌+◌, sym, ap, ◌∙◌, arith}
-use Rattle.metering.specs.Energy.{energy_at, energy_of}
+use Rattle.std.proofs.Common.{◌≡◌, ◌+◌, ap, ◌∙◌, arith}
+use Rattle.metering.specs.Energy.{energy_of}
 use Rattle.metering.proofs.Runs.{sum_more}
 use Rattle.metering.proofs.energy.unit_energy.Goals as goal
 

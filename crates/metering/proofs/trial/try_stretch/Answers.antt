@@ -1,4 +1,4 @@
-use Rattle.std.proofs.Common.{◌≡◌, ℕ, ◌+◌, ◌*◌, Some, None, Option, sym, refl, ap, ◌∙◌, subst, rules}
+use Rattle.std.proofs.Common.{◌≡◌, ℕ, ◌+◌, Some, None, Option, sym, ap, ◌∙◌}
 use Rattle.metering.specs.declared.SourceFault.{SourceFault}
 use Rattle.std.specs.List.{range_with_len}
 use Rattle.metering.specs.Sums.{first_in}

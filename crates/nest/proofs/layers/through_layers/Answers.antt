@@ -1,7 +1,6 @@
 use Rattle.std.proofs.Common.{◌≡◌, sym, ap, ◌∙◌, subst}
 use Rattle.table.specs.declared.Table.{Table}
 use Rattle.table.specs.Grid.{grid, Empty as EmptyTable}
-use Rattle.sparse.specs.declared.Sparse.{Sparse}
 use Rattle.sparse.specs.Places.{Empty as EmptySparse}
 use Rattle.sparse.specs.Meanings.{sparse_meaning}
 use Rattle.store.specs.Meaning.{Meaning}

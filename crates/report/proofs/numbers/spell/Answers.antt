@@ -1,4 +1,4 @@
-use Rattle.std.proofs.Common.{◌≡◌, ℕ, ◌≤◌, List, [], ◌∷◌, ◌++◌, length, ℤ, pos, nat_abs, ◌≤ℤ◌, ◌<ℤ◌, decimal, sym, ap, ◌∙◌, arith, w64, rules}
+use Rattle.std.proofs.Common.{◌≡◌, ℕ, ◌≤◌, List, [], ◌∷◌, ◌++◌, length, pos, nat_abs, ◌≤ℤ◌, ◌<ℤ◌, decimal, sym, ap, ◌∙◌, arith, w64, rules}
 use Rattle.std.proofs.lemmas.Int.{ints, to_z-of_z}
 use Rattle.report.proofs.Spelling.{signed_below, signed_above, put_before}
 use Rattle.report.proofs.numbers.spell.Goals as goal

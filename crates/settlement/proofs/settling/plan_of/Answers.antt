@@ -1,9 +1,7 @@
-use Rattle.std.proofs.Common.{◌≡◌, ℕ, ◌%◌, ◌<◌, ◌≤◌, Bool, true, false, cond, ltb, leb, List, length, is_some, Some, None, Option, sym, refl, ap, ◌∙◌, subst, arith, rules}
-use Rattle.std.proofs.lemmas.Bool.Decides.{nat_tests}
+use Rattle.std.proofs.Common.{◌≡◌, ℕ, ◌%◌, ◌≤◌, true, length, is_some, Some, None, Option, sym, ap, ◌∙◌, subst, arith}
 use Rattle.calendar.specs.Days.{intervals_of, window_start, window_length}
-use Rattle.marks.specs.declared.Event.{Event}
 use Rattle.marks.specs.declared.Marks.{Marks}
-use Rattle.marks.specs.Marked.{Marking, Orderly, marking, day_in, kind_in, day_within, lead_of}
+use Rattle.marks.specs.Marked.{Orderly, marking, day_in, kind_in, day_within, lead_of}
 use Rattle.settlement.specs.Books.{book_marking, orderly}
 use Rattle.choice.specs.Choice.{days_of, selected_days}
 use Rattle.register.specs.Held.{held}

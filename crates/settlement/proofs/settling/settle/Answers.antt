@@ -1,8 +1,7 @@
-use Rattle.std.proofs.Common.{◌≡◌, ℕ, ◌<◌, sym, ap, ◌∙◌, subst, arith}
+use Rattle.std.proofs.Common.{◌<◌, sym, subst, arith}
 use Rattle.settlement.specs.Books.{book_marking}
 use Rattle.settlement.specs.Lines.{Terms, chosen_days}
 use Rattle.settlement.specs.Plans.{terms_of}
-use Rattle.settlement.specs.Settles.{terms}
 use Rattle.settlement.proofs.Limits.{usable, metered_low}
 use Rattle.settlement.proofs.Planning.{some_days, some_width}
 use Rattle.settlement.proofs.settling.settle.Goals as goal

@@ -1,4 +1,4 @@
-use Rattle.std.proofs.Common.{ℕ, List, Option}
+use Rattle.std.proofs.Common.{ℕ, Option}
 use Rattle.calendar.specs.Days.{intervals_of}
 use Rattle.metering.specs.declared.SourceFault.{SourceFault}
 use Rattle.metering.specs.Energy.{trouble_at, places}

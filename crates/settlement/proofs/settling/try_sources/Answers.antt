@@ -1,4 +1,4 @@
-use Rattle.std.proofs.Common.{◌≡◌, ℕ, ◌<◌, ◌≤◌, List, [], ◌∷◌, ◌++◌, length, take, Some, None, Option, sym, refl, ap, ◌∙◌, subst, arith, take_all}
+use Rattle.std.proofs.Common.{◌≡◌, ℕ, ◌<◌, ◌≤◌, [], ◌∷◌, ◌++◌, length, Some, None, Option, sym, ap, ◌∙◌, subst, arith, take_all}
 use Rattle.metering.specs.declared.SourceFault.{SourceFault}
 use Rattle.metering.specs.Energy.{trouble_at}
 use Rattle.metering.specs.Sums.{or_else, first_in}
@@ -7,7 +7,7 @@ use Rattle.metering.proofs.Runs.{first_push}
 use Rattle.metering.proofs.Trials.{tried_on}
 use Rattle.settlement.specs.Lines.{Terms, day_sources}
 use Rattle.settlement.specs.Plans.{terms_of}
-use Rattle.settlement.proofs.Sources.{first_take, first_at, first_joined, first_rest}
+use Rattle.settlement.proofs.Sources.{first_take, first_at, first_joined}
 use Rattle.settlement.proofs.settling.try_sources.Goals as goal
 
 pub returns-in_err-try_day : goal.returns-in_err-try_day
