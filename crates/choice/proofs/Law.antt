@@ -1,6 +1,6 @@
 -- The law of the choice, by one day more at a time. Assumes nothing.
 use Rattle.std.proofs.Common.{◌≡◌, ℕ, zero, suc, ◌<◌, ◌≤◌, Bool, true, false, ◌⊎◌, List, [], ◌∷◌, sym, refl, ap, subst, inl, inr, ⊎_elim, eq-or-lt_of_le, arith}
-use Rattle.std.specs.List.{ContainsAt as Has, AllByRecursion as All}
+use Rattle.std.specs.List.{ContainsAt as Has, AllByRecursion}
 use Rattle.std.proofs.ByRecursion.{All-weaker, has_append_right}
 use Rattle.std.proofs.lemmas.Bool.{cases_Bool, lt-ltb}
 use Rattle.choice.specs.Choice.{chosen}
@@ -24,7 +24,7 @@ module _ (p e : ℕ → Bool) where
   between_match : (x d : ℕ) → p d ≡ true → x < d → matching_between p x (suc d) ≡ suc (matching_between p x d)
   between_match x d match later = let t = lt-ltb x d later in simp (match, t)
 
-  later_day : (d : ℕ) (days : List ℕ) → All (λ x. (x < d) × (p x ≡ true) × (e x ≡ false)) days → All (λ x. (x < suc d) × (p x ≡ true) × (e x ≡ false)) days
+  later_day : (d : ℕ) (days : List ℕ) → AllByRecursion (λ x. (x < d) × (p x ≡ true) × (e x ≡ false)) days → AllByRecursion (λ x. (x < suc d) × (p x ≡ true) × (e x ≡ false)) days
   later_day d days = All-weaker (λ x. (x < d) × (p x ≡ true) × (e x ≡ false)) (λ x. (x < suc d) × (p x ≡ true) × (e x ≡ false)) (λ x h. (omega (arith, h.0), h.1, h.2)) days
 
   well_none : (want span d : ℕ) → ((x : ℕ) → x < d → matching_between p x d < span → 0 ≡ want) → WellChosen p e want span d []

@@ -1,6 +1,6 @@
 -- What holds of every choice of days, and a worked figure. Assumes nothing.
 use Rattle.std.specs.Prelude.{◌≡◌, ℕ, ◌<◌, ◌≤◌, Bool, true, false, ◌&&◌, ◌⊎◌, List, [], ◌∷◌, length, filter, nat_lt}
-use Rattle.std.specs.List.{ContainsAt as Has, AllByRecursion as All}
+use Rattle.std.specs.List.{ContainsAt as Has, AllByRecursion}
 use Rattle.calendar.specs.Days.{place_of}
 use Rattle.calendar.specs.declared.Resolution.TheVariants.{FiveMinutes}
 use Rattle.marks.specs.Marked.{Marking, day_set, no_days, open_event}
@@ -10,7 +10,7 @@ use Rattle.choice.specs.Choice.{days_before, chosen, selected_days}
 -- the days go down: each is later than all that follow it
 abbrev pub GoingDown : List ℕ → Type 0
 GoingDown [] = Unit {0}
-GoingDown (x ∷ xs) = All (λ y. y < x) xs × GoingDown xs
+GoingDown (x ∷ xs) = AllByRecursion (λ y. y < x) xs × GoingDown xs
 
 -- how many matching days lie after x and before d
 abbrev pub matching_between : (ℕ → Bool) → ℕ → ℕ → ℕ
@@ -19,12 +19,12 @@ matching_between matching x d = length (filter (λ y. matching y && nat_lt x y) 
 -- what holds of the days chosen before d
 pub record WellChosen (matching passed : ℕ → Bool) (want span d : ℕ) (days : List ℕ) : Type 0 where
   -- each is before d, matches and is not passed over
-  pub fit : All (λ x. (x < d) × (matching x ≡ true) × (passed x ≡ false)) days
+  pub fit : AllByRecursion (λ x. (x < d) × (matching x ≡ true) × (passed x ≡ false)) days
   pub down : GoingDown days
   pub few : length days ≤ want
   -- none is left out: a day among the latest `span` matching days that is not passed over is chosen, or as many as are wanted are chosen, all later than it
   pub whole : (x : ℕ) → x < d → matching x ≡ true → passed x ≡ false → matching_between matching x d < span →
-      Has days x ⊎ ((length days ≡ want) × All (λ y. x < y) days)
+      Has days x ⊎ ((length days ≡ want) × AllByRecursion (λ y. x < y) days)
 
 -- whatever matches and is passed over, the days are well chosen
 abbrev pub ChoiceLaw : Type 0
