@@ -19,6 +19,8 @@ def files(*ends):
 
 
 def respelled(name):
+    if re.match(r"[A-Z]-", name):
+        name = name[0].lower() + name[1:]
     if name[0].isupper() and "-" in name:
         first, *rest = name.split("-")
         return first + "".join(part[:1].upper() + part[1:] for part in rest)

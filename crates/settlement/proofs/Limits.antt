@@ -8,7 +8,7 @@ use Rattle.method.specs.Energy.{Sound}
 use Rattle.metering.specs.Sums.{or_else, first_in}
 use Rattle.metering.specs.declared.SourceFault.{SourceFault}
 use Rattle.metering.specs.Energy.{energy_at, missing_at, trouble_at, places}
-use Rattle.settlement.specs.Lines.{Terms, chosen_days, day_sources, sources, trouble, used, VOf, WOf, AOf}
+use Rattle.settlement.specs.Lines.{Terms, chosen_days, day_sources, sources, trouble, used, v_of, w_of, a_of}
 
 -- neither of two is some
 or_parts : {Y : Type 0} (o p : Option Y) → or_else o p ≡ None → (o ≡ None) × (p ≡ None)
@@ -77,7 +77,7 @@ module _ (at : Readings) (u c : ℕ) where
         let ev = all_right Low (places x.intervals x.day x.window x.width) (places x.intervals x.day x.start x.count) day.0 in
         subst Low (add_assoc (x.day * x.intervals) x.start i) (all_counting Low (x.day * x.intervals + x.start) x.count i ev h)
 
-    pub usable : (i : ℕ) → 0 < chosen_days x → 0 < x.width → i < x.count → Sound (VOf at u c x (x.start + i)) (WOf at u c x) (AOf at u c x) (chosen_days x) x.width
+    pub usable : (i : ℕ) → 0 < chosen_days x → 0 < x.width → i < x.count → Sound (v_of at u c x (x.start + i)) (w_of at u c x) (a_of at u c x) (chosen_days x) x.width
     usable i hn hm h =
         let n = length x.days in
         let m = x.width in

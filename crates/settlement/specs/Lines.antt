@@ -44,26 +44,26 @@ module _ (at : Readings) (u c : ℕ) where
   used_before x from long = sum_by (used x from long) x.days
 
   -- V of an interval, W and A
-  abbrev pub VOf : Terms → ℕ → ℕ
-  VOf x i = used_before x i 1
+  abbrev pub v_of : Terms → ℕ → ℕ
+  v_of x i = used_before x i 1
 
-  abbrev pub WOf : Terms → ℕ
-  WOf x = used_before x x.window x.width
+  abbrev pub w_of : Terms → ℕ
+  w_of x = used_before x x.window x.width
 
-  abbrev pub AOf : Terms → ℕ
-  AOf x = used x x.window x.width x.day
+  abbrev pub a_of : Terms → ℕ
+  a_of x = used x x.window x.width x.day
 
   abbrev pub metered : Terms → ℕ → ℕ
   metered x i = energy_at at u c (x.day * x.intervals + i)
 
   -- the energies of a line are within their limits
   pub record Usable (x : Terms) (i : ℕ) : Type 0 where
-    pub sound : Sound (VOf x i) (WOf x) (AOf x) (chosen_days x) x.width
+    pub sound : Sound (v_of x i) (w_of x) (a_of x) (chosen_days x) x.width
     pub low : metered x i ≤ 5000
 
   module _ (baseline : ℕ → ℕ → ℕ → ℕ → ℕ → ℤ) where
     abbrev pub baseline_at : Terms → ℕ → ℤ
-    baseline_at x i = baseline (VOf x i) (WOf x) (AOf x) (chosen_days x) x.width
+    baseline_at x i = baseline (v_of x i) (w_of x) (a_of x) (chosen_days x) x.width
 
     -- the line of an interval
     abbrev pub line_at : Terms → ℕ → Line

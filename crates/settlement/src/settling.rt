@@ -4,7 +4,7 @@ ghost use Rattle.method.specs.Energy.{Sound};
 ghost use Rattle.metering.specs.Energy.{trouble_at};
 ghost use Rattle.metering.specs.Sums.{first_in};
 ghost use Rattle.metering.specs.Trial.{Tried};
-ghost use Rattle.settlement.specs.Lines.{day_sources, trouble, chosen_days, WOf, AOf, line_at, lines_of, reductions, Usable};
+ghost use Rattle.settlement.specs.Lines.{day_sources, trouble, chosen_days, w_of, a_of, line_at, lines_of, reductions, Usable};
 ghost use Rattle.marks.specs.Marked.{Orderly, marking, lead_of};
 ghost use Rattle.settlement.specs.Books.{book_marking};
 ghost use Rattle.settlement.specs.Plans.{terms_of};
@@ -122,8 +122,8 @@ fn try_sources<S: Store>(store: &S, unit: Unit, plan: &Plan) -> Result<(), Sourc
 
 // The energies of the window.
 fn adjust<S: Store>(store: &S, unit: Unit, plan: &Plan) -> Adjustment
-    ensures past { result.past ≡ WOf (S.Store.meaning store.now).at unit.first unit.count (terms_of plan.now) }
-    ensures present { result.present ≡ AOf (S.Store.meaning store.now).at unit.first unit.count (terms_of plan.now) }
+    ensures past { result.past ≡ w_of (S.Store.meaning store.now).at unit.first unit.count (terms_of plan.now) }
+    ensures present { result.present ≡ a_of (S.Store.meaning store.now).at unit.first unit.count (terms_of plan.now) }
 {
     let past = days_energy(store, unit, plan.resolution, &plan.selected, plan.window);
     let present = stretch_energy(store, unit, plan.resolution, plan.day, plan.window);
@@ -159,8 +159,8 @@ fn line_at<S: Store, M: Methodology>(
     adjustment: Adjustment,
     interval: u16,
 ) -> Line
-    requires past { adjustment.past ≡ WOf (S.Store.meaning store.now).at unit.first unit.count (terms_of plan.now) }
-    requires present { adjustment.present ≡ AOf (S.Store.meaning store.now).at unit.first unit.count (terms_of plan.now) }
+    requires past { adjustment.past ≡ w_of (S.Store.meaning store.now).at unit.first unit.count (terms_of plan.now) }
+    requires present { adjustment.present ≡ a_of (S.Store.meaning store.now).at unit.first unit.count (terms_of plan.now) }
     requires usable { Usable (S.Store.meaning store.now).at unit.first unit.count (terms_of plan.now) interval }
     ensures is { result ≡ line_at (S.Store.meaning store.now).at unit.first unit.count (M.Methodology.meaning method.now).baseline (terms_of plan.now) interval }
     ensures low { negsuc 9999 ≤ℤ result.reduction }
