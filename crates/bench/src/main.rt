@@ -65,22 +65,10 @@ fn time_stores(rt: &HostRuntime) -> anyhow::Result<()> {
     let mut present = vec![in heap; 0u8; CALLS as usize / 8]?;
     let mut table = Table::new(readings.as_mut_slice(), present.as_mut_slice(), 1, CALLS);
     time_store(rt, "table", &mut table)?;
-    let mut slots = vec![in heap; PlacedReading {
-        place: 0,
-        energy: 0
-    }; CALLS as usize]?;
+    let mut slots = vec![in heap; PlacedReading::default(); CALLS as usize]?;
     let mut sparse = Sparse::new(CALLS, slots.as_mut_slice());
     time_store(rt, "sparse", &mut sparse)
 }
-
-const BLANK_LINE: Line = Line {
-    day: 0,
-    interval: 0,
-    days: 0,
-    baseline: 0,
-    metered: 0,
-    reduction: 0,
-};
 
 // Enters a reading at every place of every point.
 fn fill_all<S: Store>(store: &mut S) {
@@ -119,13 +107,9 @@ fn time_settling(rt: &HostRuntime) -> anyhow::Result<()> {
     let mut present = vec![in heap; 0u8; 2 * 3456]?;
     let mut store = Table::new(readings.as_mut_slice(), present.as_mut_slice(), 16, span);
     fill_all(&mut store);
-    let mut holidays = [DayMark { day: 0 }; 4];
-    let mut exclusions = [DayMark { day: 0 }; 4];
-    let mut events = [Event {
-        first: 0,
-        count: 0,
-        issued: false,
-    }; 4];
+    let mut holidays = [DayMark::default(); 4];
+    let mut exclusions = [DayMark::default(); 4];
+    let mut events = [Event::default(); 4];
     let mut book = Book::new(
         Resolution::FiveMinutes.intervals(),
         12,
@@ -135,7 +119,7 @@ fn time_settling(rt: &HostRuntime) -> anyhow::Result<()> {
     );
     let first = 11 * 288 + 48;
     let _ = book.mark_event(first, 240);
-    let mut lines = vec![in heap; BLANK_LINE; 240]?;
+    let mut lines = vec![in heap; Line::default(); 240]?;
     time_settle(rt, &store, &book, first, lines.as_mut_slice())
 }
 

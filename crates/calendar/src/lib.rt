@@ -13,8 +13,8 @@ pub enum DayKind {
 // How a day is cut into trading intervals: 48 of half an hour, or 288 of five minutes.
 #[derive(Clone, Copy, PartialEq, Eq, Debug)]
 pub enum Resolution {
-    HalfHours,
-    FiveMinutes,
+    HalfHours = 48,
+    FiveMinutes = 288,
 }
 
 // So many neighbouring intervals of a day, from the first on.
@@ -25,35 +25,27 @@ pub struct Stretch {
 }
 
 impl Resolution {
-    // The resolution with so many intervals in a day.
+    // The resolution with so many intervals in a day; an Option, since each caller tells a fault of its own.
     pub fn of(intervals: u32) -> Option<Resolution>
         ensures { result ≡ resolution_of intervals }
     {
-        match intervals {
-            48 => Some(Resolution::HalfHours),
-            288 => Some(Resolution::FiveMinutes),
-            _ => None,
-        }
+        [Resolution::HalfHours, Resolution::FiveMinutes]
+            .into_iter()
+            .find(|resolution| resolution.intervals() == intervals)
     }
 
     // The trading intervals in a day.
     pub fn intervals(self) -> u32
         ensures { result ≡ intervals_of self }
     {
-        match self {
-            Resolution::HalfHours => 48,
-            Resolution::FiveMinutes => 288,
-        }
+        self as u32
     }
 
     // The trading intervals in an hour.
     pub fn hour(self) -> u32
         ensures { result ≡ hour_of self }
     {
-        match self {
-            Resolution::HalfHours => 2,
-            Resolution::FiveMinutes => 12,
-        }
+        self.intervals() / 24
     }
 
     // The place of an interval of a day.
@@ -69,10 +61,7 @@ impl Resolution {
         ensures is { result ≡ place % intervals_of self }
         ensures within { result < 288 }
     {
-        match self {
-            Resolution::HalfHours => (place % 48) as u16,
-            Resolution::FiveMinutes => (place % 288) as u16,
-        }
+        (place % self.intervals()) as u16
     }
 
     // The adjustment window of a first interval: three hours, from four hours before it on.
@@ -80,15 +69,10 @@ impl Resolution {
         ensures first { result.first ≡ window_start self first }
         ensures count { result.count ≡ window_length self }
     {
-        match self {
-            Resolution::HalfHours => Stretch {
-                first: first.saturating_sub(8),
-                count: 6,
-            },
-            Resolution::FiveMinutes => Stretch {
-                first: first.saturating_sub(48),
-                count: 36,
-            },
+        let hour = self.hour() as u16;
+        Stretch {
+            first: first.saturating_sub(4 * hour),
+            count: 3 * hour,
         }
     }
 }

@@ -1,18 +1,13 @@
 -- The law of the choice, by one day more at a time. Assumes nothing.
-use Rattle.std.proofs.Common.{◌≡◌, ℕ, zero, suc, ◌<◌, ◌≤◌, Bool, true, false, ◌⊎◌, List, [], ◌∷◌, sym, refl, ap, subst, inl, inr, ⊎_elim, eq-or-lt_of_le, arith}
+use Rattle.std.proofs.Common.{◌≡◌, ℕ, zero, suc, ◌<◌, ◌≤◌, Bool, true, false, ◌⊎◌, List, [], ◌∷◌, sym, refl, ap, inl, inr, ⊎_elim, eq-or-lt_of_le, arith}
 use Rattle.std.specs.List.{ContainsAt as Has, AllByRecursion}
 use Rattle.std.proofs.ByRecursion.{All-weaker, has_append_right}
 use Rattle.std.proofs.lemmas.Bool.{cases_Bool, lt-ltb}
 use Rattle.choice.specs.Choice.{chosen}
 use Rattle.choice.specs.Claims.{matching_between, WellChosen, ChoiceLaw}
-use Rattle.choice.proofs.Steps.{other, skipped, taken, none_wanted, none_looked_at, none_left}
 
 here_or_earlier : (x d : ℕ) → x < suc d → (x ≡ d) ⊎ (x < d)
 here_or_earlier x d h = let l : x ≤ d = omega arith in eq-or-lt_of_le l
-
--- one day does not answer a test both ways
-clash : (f : ℕ → Bool) {x d : ℕ} → f x ≡ true → x ≡ d → f d ≡ false → ⊥
-clash f a s b = let z : ◌≡◌ {A = ℕ} 0 1 = cc in omega arith
 
 has_here : (d x : ℕ) (days : List ℕ) → x ≡ d → Has (d ∷ days) x
 has_here d x days s = (0, omega arith, λ _. sym s)
@@ -36,7 +31,7 @@ module _ (p e : ℕ → Bool) where
     down = w.down;
     few = w.few;
     whole = λ x l m u b. elim (here_or_earlier x d l) [
-      | inl s ↦ absurd (clash p m s no-match)
+      | inl s ↦ cc
       | inr earlier ↦ w.whole x earlier m u (omega (arith, b, between_other x d no-match))
     ];
   }
@@ -47,7 +42,7 @@ module _ (p e : ℕ → Bool) where
     down = w.down;
     few = w.few;
     whole = λ x l m u b. elim (here_or_earlier x d l) [
-      | inl s ↦ absurd (clash e pass (sym s) u)
+      | inl s ↦ cc
       | inr earlier ↦ w.whole x earlier m u (omega (arith, b, between_match x d match earlier))
     ];
   }
@@ -66,20 +61,22 @@ module _ (p e : ℕ → Bool) where
 
   -- a matching day more
   well_matched : (d : ℕ) → p d ≡ true → ((want span : ℕ) → WellChosen p e want span d (chosen p e want span d)) → (want span : ℕ) → WellChosen p e want span (suc d) (chosen p e want span (suc d))
-  well_matched d match below zero span =
-      subst (WellChosen p e zero span (suc d)) (sym (none_wanted p e span (suc d))) (well_none zero span (suc d) (λ x l b. refl))
-  well_matched d match below (suc want) zero =
-      subst (WellChosen p e (suc want) zero (suc d)) (sym (none_looked_at p e (suc want) (suc d))) (well_none (suc want) zero (suc d) (λ x l b. omega arith))
+  unfolding chosen
+  well_matched d match below zero span = well_none zero span (suc d) (λ x l b. refl)
+  well_matched d match below (suc want) zero = well_none (suc want) zero (suc d) (λ x l b. omega arith)
   well_matched d match below (suc want) (suc span) = elim (cases_Bool (e d)) [
-    | inl pass ↦ subst (WellChosen p e (suc want) (suc span) (suc d)) (sym (skipped p e (suc want) span d match pass)) (well_skipped match pass (below (suc want) span))
-    | inr pass ↦ subst (WellChosen p e (suc want) (suc span) (suc d)) (sym (taken p e want span d match pass)) (well_taken match pass (below want span))
+    | inl pass ↦ simp (match, pass) (well_skipped match pass (below (suc want) span))
+    | inr pass ↦ simp (match, pass) (well_taken match pass (below want span))
   ]
 
   well : (d want span : ℕ) → WellChosen p e want span d (chosen p e want span d)
-  well zero want span = subst (WellChosen p e want span zero) (sym (none_left p e want span)) (well_none want span zero (λ x l b. omega arith))
+  unfolding chosen
+  well zero zero span = well_none zero span zero (λ x l b. refl)
+  well zero (suc want) zero = well_none (suc want) zero zero (λ x l b. omega arith)
+  well zero (suc want) (suc span) = well_none (suc want) (suc span) zero (λ x l b. omega arith)
   well (suc d) want span = elim (cases_Bool (p d)) [
     | inl match ↦ well_matched d match (well d) want span
-    | inr no-match ↦ subst (WellChosen p e want span (suc d)) (sym (other p e want span d no-match)) (well_other no-match (well d want span))
+    | inr no-match ↦ simp no-match (well_other no-match (well d want span))
   ]
 
 pub law : ChoiceLaw

@@ -1,4 +1,2 @@
-pub mod Steps
-pub mod Draws
-pub mod Latest
+pub mod Found
 pub mod Law

@@ -1,9 +1,8 @@
 -- Which days are selected: of the latest `span` matching days before d, the latest `want` of those that are left. Assumes nothing.
-use Rattle.std.specs.Prelude.{ℕ, zero, suc, Bool, true, false, not, ◌&&◌, ◌||◌, List, [], ◌∷◌, take, filter}
+use Rattle.std.specs.Prelude.{ℕ, zero, suc, Bool, not, ◌&&◌, ◌||◌, List, [], ◌∷◌, take, filter}
 use Rattle.marks.specs.Marked.{Marking, kind_in, event_day}
 use Rattle.method.specs.Rules.{Rules}
-use Rattle.choice.specs.declared.Selected.{Selected}
-use Rattle.choice.specs.declared.TestDays.{TestDays}
+use Rattle.choice.specs.declared.Days.{Days}
 
 -- the days before d, the latest first
 abbrev pub days_before : ℕ → List ℕ
@@ -30,22 +29,17 @@ has_event b x = event_day b.resolution b.events x
 abbrev pub set_aside : Marking → ℕ → Bool
 set_aside b x = has_event b x || b.exclusions.has x
 
--- a day that is passed over, in an assessment or not
-abbrev pub passed_over : Bool → Marking → ℕ → Bool
-passed_over false b x = has_event b x
-passed_over true b x = set_aside b x
+-- the days selected for the day d, where some days are passed over
+abbrev pub drawn_by : (ℕ → Bool) → Rules → Marking → ℕ → List ℕ
+drawn_by passed r b d = chosen (λ x. matching_day r b d x) passed (r.wanted (kind_in b d)) 50 d
 
 -- the selected days of the day d: event days are passed over
 abbrev pub selected_days : Rules → Marking → ℕ → List ℕ
-selected_days r b d = chosen (λ x. matching_day r b d x) (λ x. has_event b x) (r.wanted (kind_in b d)) 50 d
+selected_days r b d = drawn_by (λ x. has_event b x) r b d
 
 -- the selected days in an assessment: exclusions are passed over too
 abbrev pub assessed_days : Rules → Marking → ℕ → List ℕ
-assessed_days r b d = chosen (λ x. matching_day r b d x) (λ x. set_aside b x) (r.wanted (kind_in b d)) 50 d
-
--- the selected days, in an assessment or not
-abbrev pub drawn_days : Bool → Rules → Marking → ℕ → List ℕ
-drawn_days assessing r b d = chosen (λ x. matching_day r b d x) (λ x. passed_over assessing b x) (r.wanted (kind_in b d)) 50 d
+assessed_days r b d = drawn_by (λ x. set_aside b x) r b d
 
 -- a day that a load can be tested on: it is served, has no event and is not excluded
 abbrev pub testing_day : Rules → Marking → ℕ → Bool
@@ -55,10 +49,10 @@ testing_day r b x = r.serves (kind_in b x) && not (set_aside b x)
 abbrev pub test_days : Rules → Marking → ℕ → List ℕ
 test_days r b d = latest (λ x. testing_day r b x) r.tests d
 
--- the days that were selected
-abbrev pub days_of : Selected → List ℕ
+-- the days that were found
+abbrev pub days_of : {N : ℕ} → Days N → List ℕ
 days_of s = take s.count s.days
 
 -- the test days that were found
-abbrev pub test_days_of : TestDays → List ℕ
-test_days_of s = take s.count s.days
+abbrev pub test_days_of : Days 50 → List ℕ
+test_days_of s = days_of s

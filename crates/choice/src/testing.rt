@@ -1,37 +1,29 @@
 // The days that a load is tested on in an assessment.
 ghost use Rattle.std.specs.Prelude.{◌≡◌};
-ghost use Rattle.marks.specs.Marked.{marking, Orderly};
+ghost use Rattle.marks.specs.Marked.{marking};
 ghost use Rattle.choice.specs.Choice.{testing_day, test_days, test_days_of};
 
-use crate::TestDays;
-use crate::selection::is_passed;
+use crate::selection::is_set_aside;
+use crate::{Days, TestDays};
 use marks::Marks;
 use method::methodology::Methodology;
 
 // Whether a load can be tested on a day: it is served, has no event and is not excluded.
 fn is_testing_day<M: Methodology>(marks: &Marks, method: &M, day: u16) -> bool
-    ensures { Orderly marks.now → result ≡ testing_day (M.meaning method.now) (marking marks.now) day }
+    ensures { result ≡ testing_day (M.meaning method.now) (marking marks.now) day }
 {
-    if method.serves(marks.kind_of_day(day)) {
-        return !is_passed(marks, day, true);
-    }
-    false
+    method.serves(marks.kind_of_day(day)) && !is_set_aside(marks, day)
 }
 
 // The latest days before `day` that a load can be tested on, as many as the methodology tests.
 pub fn test_days<M: Methodology>(marks: &Marks, method: &M, day: u16) -> TestDays
-    ensures { Orderly marks.now → test_days_of result ≡ test_days (M.meaning method.now) (marking marks.now) day }
+    ensures { test_days_of result ≡ test_days (M.meaning method.now) (marking marks.now) day }
 {
     let wanted = usize::from(method.test_days());
-    let mut days = [0; 50];
-    let mut count = 0;
-    let mut past = day;
-    while past > 0 && count < wanted {
-        past -= 1;
-        if is_testing_day(marks, method, past) {
-            days[count] = past;
-            count += 1;
-        }
-    }
-    TestDays { days, count }
+    Days::of(
+        (0..day)
+            .rev()
+            .filter(|past| is_testing_day(marks, method, *past))
+            .take(wanted),
+    )
 }

@@ -1,3 +1,4 @@
+mod Words
 mod Telling
 mod Sheets
 mod Openings

@@ -2,6 +2,8 @@
 // each settled event, up to the first refusal. `header` reads the header, `desk` works one word, `run` the whole input.
 #![tactic(auto)]
 
+ghost use Rattle.std.specs.Prelude.{◌≡◌};
+ghost use Rattle.clerk.specs.declared.WorkFault.TheVariants.{Load, Settle, Report};
 ghost use Rattle.clerk.specs.Faults.{work_refusal};
 
 use refusal::Refuse;
@@ -15,7 +17,7 @@ mod laws;
 mod making;
 mod run;
 
-pub use desk::{Worked, settle_and_print, work};
+pub use desk::{Page, Worked};
 pub use header::{Header, word_at};
 pub use laws::one_output_stands;
 pub use run::statement;
@@ -26,6 +28,30 @@ pub enum WorkFault {
     Load(LoadFault),
     Settle(SettleFault),
     Report(ReportFault),
+}
+
+impl From<LoadFault> for WorkFault {
+    ghost from_gives = { λ e r. r ≡ Load e };
+
+    fn from(fault: LoadFault) -> WorkFault {
+        WorkFault::Load(fault)
+    }
+}
+
+impl From<SettleFault> for WorkFault {
+    ghost from_gives = { λ e r. r ≡ Settle e };
+
+    fn from(fault: SettleFault) -> WorkFault {
+        WorkFault::Settle(fault)
+    }
+}
+
+impl From<ReportFault> for WorkFault {
+    ghost from_gives = { λ e r. r ≡ Report e };
+
+    fn from(fault: ReportFault) -> WorkFault {
+        WorkFault::Report(fault)
+    }
 }
 
 impl Refuse for WorkFault {

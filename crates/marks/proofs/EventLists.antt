@@ -8,12 +8,14 @@ use Rattle.std.proofs.lemmas.Bool.{cases_lt, cases_order, cases_Bool, both_ways,
 use Rattle.calendar.specs.declared.Resolution.{Resolution}
 use Rattle.calendar.specs.declared.Resolution.TheVariants.{HalfHours, FiveMinutes}
 use Rattle.calendar.specs.Days.{intervals_of, hour_of}
-use Rattle.register.specs.Order.{Rising, seek, spot}
+use Rattle.register.specs.Rising.{Rising}
+use Rattle.register.specs.Order.{seek, spot}
 use Rattle.register.proofs.Places.{spot_below, spot_from, spot_within, absent}
 use Rattle.register.proofs.Lookups.{nth_some, seek_some, seek_key}
 use Rattle.marks.specs.declared.Event.{Event}
 use Rattle.marks.specs.Keys.{event_key}
-use Rattle.marks.specs.Marked.{end_of, day_in, some_of, event_day, well_placed, in_book, overlapping, starts_before, ends_after, open_event, closely_before, leads, last_of, lead_of, LeadRank, Placed, Apart}
+use Rattle.marks.specs.Events.{end_of, day_in, well_placed, in_book, Placed, Apart}
+use Rattle.marks.specs.Marked.{some_of, event_day, overlapping, starts_before, ends_after, open_event, closely_before, leads, last_of, lead_of, LeadRank}
 
 -- ---- some of a list
 

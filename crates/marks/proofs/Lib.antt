@@ -1,4 +1,3 @@
-pub mod DaySets
 pub mod EventLists
 pub mod EventMarks
 pub mod Once

@@ -1,2 +1,4 @@
 pub mod Keys
+pub mod Faults
+pub mod Events
 pub mod Marked

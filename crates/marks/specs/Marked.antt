@@ -1,32 +1,24 @@
 -- What is marked in a book, and what marking and lifting do to it. Assumes nothing.
-use Rattle.std.specs.Prelude.{◌≡◌, ℕ, ◌+◌, ◌-◌, ◌*◌, ◌/◌, ◌%◌, ◌<◌, ◌≤◌, Bool, true, false, cond, not, ◌&&◌, ◌||◌, List, [], ◌∷◌, length, get_or, is_some, Some, None, filter, Option, Result, MatchResult, ◌==◌, nat_eq, nat_le, nat_lt, slice_index_or}
+use Rattle.std.specs.Prelude.{◌≡◌, ℕ, ◌+◌, ◌-◌, ◌*◌, ◌<◌, ◌≤◌, Bool, true, false, cond, not, ◌&&◌, ◌||◌, List, [], ◌∷◌, length, is_some, Some, None, filter, Option, Result, MatchResult, ◌==◌, nat_eq, nat_le, nat_lt, slice_index_or}
 use Rattle.std.specs.List.{insert, remove}
-use Rattle.refusal.specs.Refusals.{Refusal, plain}
 use Rattle.refusal.specs.declared.MakeFault.{MakeFault}
 use Rattle.refusal.specs.declared.MakeFault.TheVariants.{Limits}
 use Rattle.calendar.specs.declared.DayKind.{DayKind}
 use Rattle.calendar.specs.declared.Resolution.{Resolution}
 use Rattle.calendar.specs.declared.Resolution.TheVariants.{HalfHours}
-use Rattle.calendar.specs.Days.{intervals_of, hour_of, resolution_of, kind_on, window_start}
+use Rattle.calendar.specs.Days.{hour_of, resolution_of, kind_on, window_start}
 use Rattle.register.specs.declared.Register.{Register}
 use Rattle.register.specs.Held.{held, capacity}
-use Rattle.register.specs.Order.{Rising, seek, spot}
+use Rattle.register.specs.Order.{seek, spot}
 use Rattle.marks.specs.declared.DayMark.{DayMark}
 use Rattle.marks.specs.declared.Event.{Event}
 use Rattle.marks.specs.declared.Marks.{Marks}
 use Rattle.marks.specs.declared.MarkFault.{MarkFault}
 use Rattle.marks.specs.declared.MarkFault.TheVariants.{DayBeyond, Misplaced, Overlap, Already, Full, Absent, Issued}
+use Rattle.marks.specs.declared.MarkKind.{MarkKind}
+use Rattle.marks.specs.declared.MarkKind.TheVariants.{Holiday, Exclusion}
 use Rattle.marks.specs.Keys.{day_key, event_key}
-
--- the number of each cause
-abbrev pub mark_refusal : MarkFault → Refusal
-mark_refusal DayBeyond = plain 6
-mark_refusal Misplaced = plain 7
-mark_refusal Overlap = plain 8
-mark_refusal Already = plain 9
-mark_refusal Full = plain 10
-mark_refusal Absent = plain 11
-mark_refusal Issued = plain 12
+use Rattle.marks.specs.Events.{day_in, well_placed, end_of}
 
 -- a set of marked days: which days are in it, and how many more it has room for
 pub record DaySet : Type 0 where
@@ -47,8 +39,17 @@ abbrev pub day_set : List DayMark → ℕ → DaySet
 day_set xs slots = record { has = λ d. is_some (seek day_key d xs); free = slots - length xs }
 
 -- the days in a register
-abbrev pub days_in : Register DayMark → DaySet
+abbrev pub days_in : {g : _} → Register DayMark g → DaySet
 days_in g = day_set (held g) (capacity g)
+
+-- the records of the days that are marked so, and those days
+abbrev pub marked_in : MarkKind → Marks → List DayMark
+marked_in Holiday m = held m.holidays
+marked_in Exclusion m = held m.exclusions
+
+abbrev pub days_marked : MarkKind → Marking → DaySet
+days_marked Holiday b = b.holidays
+days_marked Exclusion b = b.exclusions
 
 -- what the fields of a book's marks mean
 abbrev pub marking : Marks → Marking
@@ -85,21 +86,9 @@ DayLifted s s' d r = MatchResult r
 
 -- ---- events
 
--- the first place after an event
-abbrev pub end_of : Event → ℕ
-end_of e = e.first + e.count
-
--- the day of a place
-abbrev pub day_in : Resolution → ℕ → ℕ
-day_in r place = place / intervals_of r
-
 -- the day of a place, where the book has it
 abbrev pub day_within : Marking → ℕ → Option ℕ
 day_within b place = cond (nat_lt (day_in b.resolution place) b.days) (Some (day_in b.resolution place)) None
-
--- an event has an interval, starts four hours into its day or later, and ends by midnight
-abbrev pub well_placed : Resolution → ℕ → ℕ → Bool
-well_placed r first count = nat_le 1 count && (nat_le (4 * hour_of r) (first % intervals_of r) && nat_le (first % intervals_of r + count) (intervals_of r))
 
 -- some of a list passes
 abbrev pub some_of : {X : Type 0} → (X → Bool) → List X → Bool
@@ -179,6 +168,11 @@ pub record SameButExclusions (b b' : Marking) : Type 0 where
   pub events : b'.events ≡ b.events
   pub event_slots : b'.event_slots ≡ b.event_slots
 
+-- all but the days that are marked so
+abbrev pub SameButDays : MarkKind → Marking → Marking → Type 0
+SameButDays Holiday b b' = SameButHolidays b b'
+SameButDays Exclusion b b' = SameButExclusions b b'
+
 -- ---- the lead
 
 -- an earlier event of the same day ends less than four hours before the event l
@@ -211,53 +205,6 @@ pub record LeadRank (r : Resolution) (es : List Event) (i k : ℕ) : Type 0 wher
 abbrev pub window_from : Resolution → Option Event → Option ℕ
 window_from r None = None
 window_from r (Some l) = Some (window_start r l.first)
-
--- ---- the order that every book keeps
-
--- the records are in rising order: of the holidays ..
-abbrev pub HolidaysRise : Marks → Type 0
-HolidaysRise m = Rising day_key (held m.holidays)
-
--- .. of the exclusions ..
-abbrev pub ExclusionsRise : Marks → Type 0
-ExclusionsRise m = Rising day_key (held m.exclusions)
-
--- .. and of the events
-abbrev pub EventsRise : Marks → Type 0
-EventsRise m = Rising event_key (held m.events)
-
--- an event is well placed in a day of a book of so many days
-abbrev pub in_book : Resolution → ℕ → Event → Bool
-in_book r days e = nat_lt (day_in r e.first) days && well_placed r e.first e.count
-
--- every event is so placed
-abbrev pub Placed : Resolution → ℕ → List Event → Type 0
-Placed r days es = (i : ℕ) (d : Event) → i < length es → in_book r days (slice_index_or es i d) ≡ true
-
--- so it is in these marks
-abbrev pub EventsPlaced : Marks → Type 0
-EventsPlaced m = Placed m.resolution m.days (held m.events)
-
--- no event reaches into a later one
-abbrev pub Apart : List Event → Type 0
-Apart es = (i j : ℕ) (d : Event) → (i < j) × (j < length es) → end_of (slice_index_or es i d) ≤ (get_or es j d).first
-
--- so it is in these marks
-abbrev pub EventsApart : Marks → Type 0
-EventsApart m = Apart (held m.events)
-
--- a book has 1 to 4,096 days
-abbrev pub DaysFit : Marks → Type 0
-DaysFit m = (1 ≤ m.days) × (m.days ≤ 4096)
-
--- all of it
-pub record Orderly (m : Marks) : Type 0 where
-  pub fit : DaysFit m
-  pub holidays : HolidaysRise m
-  pub exclusions : ExclusionsRise m
-  pub events : EventsRise m
-  pub placed : EventsPlaced m
-  pub apart : EventsApart m
 
 -- ---- making
 

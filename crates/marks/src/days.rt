@@ -1,15 +1,16 @@
 // Making the marks of a book, its days, and the days that are marked.
 ghost use Rattle.std.specs.Prelude.{◌≡◌, length, if◌then◌else◌, Some, None};
+ghost use Rattle.std.specs.Result.{result_err};
 ghost use Rattle.register.specs.Held.{held};
-ghost use Rattle.register.specs.Order.{Rising};
+ghost use Rattle.register.specs.Rising.{Rising};
 ghost use Rattle.marks.specs.Keys.{day_key};
-ghost use Rattle.marks.specs.Marked.{marking, newly, marks_fault, fitting, days_in, kind_in, Orderly};
-ghost use Rattle.marks.specs.Marked.{DayMarked, DayLifted, SameButHolidays, SameButExclusions};
+ghost use Rattle.marks.specs.Marked.{marking, newly, marks_fault, fitting, days_in, kind_in, marked_in};
+ghost use Rattle.marks.specs.Marked.{DayMarked, DayLifted, SameButDays, days_marked};
 
-use crate::{DayMark, Event, MarkFault, Marks};
+use crate::{DayMark, Event, MarkFault, MarkKind, Marks};
 use calendar::{DayKind, Resolution};
 use refusal::MakeFault;
-use register::{Register, RegisterFault};
+use register::Register;
 
 const MOST_DAYS: u32 = 4096;
 
@@ -26,38 +27,31 @@ fn book_days(days: u32) -> Option<u16>
 
 // Marks a day, where the book has it.
 fn mark_in(register: &mut Register<DayMark>, days: u16, day: u16) -> Result<(), MarkFault>
-    ensures done { Rising day_key (held register.old) → DayMarked days (days_in register.old) (days_in register.new) day result }
-    ensures order { Rising day_key (held register.old) → Rising day_key (held register.new) }
+    ensures { DayMarked days (days_in register.old) (days_in register.new) day result }
 {
     if day >= days {
         return Err(MarkFault::DayBeyond);
     }
-    match register.insert(DayMark { day }) {
-        Ok(()) => Ok(()),
-        Err(RegisterFault::Full) => Err(MarkFault::Full),
-        Err(_) => Err(MarkFault::Already),
-    }
+    register.insert(DayMark { day })?;
+    Ok(())
 }
 
 // Lifts the mark of a day.
 fn lift_in(register: &mut Register<DayMark>, day: u16) -> Result<(), MarkFault>
-    ensures done { Rising day_key (held register.old) → DayLifted (days_in register.old) (days_in register.new) day result }
-    ensures order { Rising day_key (held register.old) → Rising day_key (held register.new) }
+    ensures { DayLifted (days_in register.old) (days_in register.new) day result }
 {
-    match register.remove(u32::from(day)) {
-        Ok(_) => Ok(()),
-        Err(_) => Err(MarkFault::Absent),
-    }
+    register.remove(u32::from(day))?;
+    Ok(())
 }
 
 impl<'a> Marks<'a> {
     // Whether a book may have so many intervals a day and so many days.
-    pub fn check(intervals: u32, days: u32) -> Option<MakeFault>
-        ensures { result ≡ marks_fault intervals days }
+    pub fn check(intervals: u32, days: u32) -> Result<(), MakeFault>
+        ensures { result_err result ≡ marks_fault intervals days }
     {
         match (Resolution::of(intervals), book_days(days)) {
-            (Some(_), Some(_)) => None,
-            _ => Some(MakeFault::Limits),
+            (Some(_), Some(_)) => Ok(()),
+            _ => Err(MakeFault::Limits),
         }
     }
 
@@ -69,7 +63,6 @@ impl<'a> Marks<'a> {
         exclusions: &'a mut [DayMark],
         events: &'a mut [Event],
     ) -> Marks<'a>
-        ensures order { Orderly result }
         ensures is { marking result ≡ newly intervals days (length holidays.old) (length exclusions.old) (length events.old) }
     {
         match (Resolution::of(intervals), book_days(days)) {
@@ -104,74 +97,53 @@ impl<'a> Marks<'a> {
         self.days
     }
 
-    // How many holidays are marked.
-    pub fn holiday_count(&self) -> usize
-        ensures { result ≡ length (held self.now.holidays) }
+    // How many days are marked so.
+    pub fn day_count(&self, kind: MarkKind) -> usize
+        ensures { result ≡ length (marked_in kind self.now) }
     {
-        self.holidays.len()
+        match kind {
+            MarkKind::Holiday => self.holidays.len(),
+            MarkKind::Exclusion => self.exclusions.len(),
+        }
     }
 
-    // How many exclusions are marked.
-    pub fn exclusion_count(&self) -> usize
-        ensures { result ≡ length (held self.now.exclusions) }
+    // Whether the day is marked so.
+    pub fn is_marked(&self, kind: MarkKind, day: u16) -> bool
+        ensures { result ≡ (days_marked kind (marking self.now)).has day }
     {
-        self.exclusions.len()
-    }
-
-    // Whether the day is marked a holiday.
-    pub fn is_holiday(&self, day: u16) -> bool
-        ensures { Orderly self.now → result ≡ (marking self.now).holidays.has day }
-    {
-        self.holidays.find(u32::from(day)).is_some()
-    }
-
-    // Whether the day is marked an exclusion.
-    pub fn is_exclusion(&self, day: u16) -> bool
-        ensures { Orderly self.now → result ≡ (marking self.now).exclusions.has day }
-    {
-        self.exclusions.find(u32::from(day)).is_some()
+        let day = u32::from(day);
+        match kind {
+            MarkKind::Holiday => self.holidays.find(day).is_some(),
+            MarkKind::Exclusion => self.exclusions.find(day).is_some(),
+        }
     }
 
     // A day is non-business at a weekend or where it is marked a holiday, else business.
     pub fn kind_of_day(&self, day: u16) -> DayKind
-        ensures { Orderly self.now → result ≡ kind_in (marking self.now) day }
+        ensures { result ≡ kind_in (marking self.now) day }
     {
-        calendar::kind_on(u32::from(day), self.is_holiday(day))
+        calendar::kind_on(u32::from(day), self.is_marked(MarkKind::Holiday, day))
     }
 
-    // Marks a day of the book a holiday.
-    pub fn mark_holiday(&mut self, day: u16) -> Result<(), MarkFault>
-        ensures done { Orderly self.old → DayMarked (marking self.old).days (marking self.old).holidays (marking self.new).holidays day result }
-        ensures rest { SameButHolidays (marking self.old) (marking self.new) }
-        ensures order { Orderly self.old → Orderly self.new }
+    // Marks a day of the book so.
+    pub fn mark_day(&mut self, kind: MarkKind, day: u16) -> Result<(), MarkFault>
+        ensures done { DayMarked (marking self.old).days (days_marked kind (marking self.old)) (days_marked kind (marking self.new)) day result }
+        ensures rest { SameButDays kind (marking self.old) (marking self.new) }
     {
-        mark_in(&mut self.holidays, self.days, day)
+        match kind {
+            MarkKind::Holiday => mark_in(&mut self.holidays, self.days, day),
+            MarkKind::Exclusion => mark_in(&mut self.exclusions, self.days, day),
+        }
     }
 
-    // Marks a day of the book an exclusion.
-    pub fn mark_exclusion(&mut self, day: u16) -> Result<(), MarkFault>
-        ensures done { Orderly self.old → DayMarked (marking self.old).days (marking self.old).exclusions (marking self.new).exclusions day result }
-        ensures rest { SameButExclusions (marking self.old) (marking self.new) }
-        ensures order { Orderly self.old → Orderly self.new }
+    // The day is marked so no more.
+    pub fn lift_day(&mut self, kind: MarkKind, day: u16) -> Result<(), MarkFault>
+        ensures done { DayLifted (days_marked kind (marking self.old)) (days_marked kind (marking self.new)) day result }
+        ensures rest { SameButDays kind (marking self.old) (marking self.new) }
     {
-        mark_in(&mut self.exclusions, self.days, day)
-    }
-
-    // The day is a holiday no more.
-    pub fn lift_holiday(&mut self, day: u16) -> Result<(), MarkFault>
-        ensures done { Orderly self.old → DayLifted (marking self.old).holidays (marking self.new).holidays day result }
-        ensures rest { SameButHolidays (marking self.old) (marking self.new) }
-        ensures order { Orderly self.old → Orderly self.new }
-    {
-        lift_in(&mut self.holidays, day)
-    }
-
-    // The day is an exclusion no more.
-    pub fn lift_exclusion(&mut self, day: u16) -> Result<(), MarkFault>
-        ensures done { Orderly self.old → DayLifted (marking self.old).exclusions (marking self.new).exclusions day result }
-        ensures rest { SameButExclusions (marking self.old) (marking self.new) }
-        ensures order { Orderly self.old → Orderly self.new }
-    {
-        lift_in(&mut self.exclusions, day)
+        match kind {
+            MarkKind::Holiday => lift_in(&mut self.holidays, day),
+            MarkKind::Exclusion => lift_in(&mut self.exclusions, day),
+        }
     }
 }

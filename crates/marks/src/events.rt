@@ -5,7 +5,8 @@ ghost use Rattle.register.specs.Order.{seek};
 ghost use Rattle.calendar.specs.declared.Resolution.TheVariants.{FiveMinutes};
 ghost use Rattle.calendar.specs.Days.{window_length};
 ghost use Rattle.marks.specs.Keys.{event_key};
-ghost use Rattle.marks.specs.Marked.{marking, day_within, event_day, end_of, well_placed, some_of, overlapping, starts_before, ends_after, Orderly};
+ghost use Rattle.marks.specs.Events.{end_of, well_placed};
+ghost use Rattle.marks.specs.Marked.{marking, day_within, event_day, some_of, overlapping, starts_before, ends_after};
 ghost use Rattle.marks.specs.Marked.{EventMarked, EventLifted, lift_fault, SameButEvents, closely_before, leads, lead_of, LeadRank, open_event, window_from};
 
 use crate::{Event, MarkFault, Marks};
@@ -61,7 +62,7 @@ impl<'a> Marks<'a> {
 
     // The event with this first place.
     pub fn event_at(&self, first: u32) -> Option<Event>
-        ensures { Orderly self.now → result ≡ seek event_key first (marking self.now).events }
+        ensures { result ≡ seek event_key first (marking self.now).events }
     {
         self.events.find(first)
     }
@@ -82,7 +83,7 @@ impl<'a> Marks<'a> {
 
     // Whether the day has an event, open or issued.
     pub fn is_event_day(&self, day: u16) -> bool
-        ensures { Orderly self.now → result ≡ event_day (marking self.now).resolution (marking self.now).events day }
+        ensures { result ≡ event_day (marking self.now).resolution (marking self.now).events day }
     {
         let intervals = self.resolution.intervals();
         let rank = self.events.first_at(u32::from(day) * intervals);
@@ -104,7 +105,7 @@ impl<'a> Marks<'a> {
 
     // Whether there is an event at a rank and it ends after a place.
     fn ends_after(&self, rank: usize, place: u32) -> bool
-        ensures { Orderly self.now → result ≡ ends_after place (slice_get (marking self.now).events rank) }
+        ensures { result ≡ ends_after place (slice_get (marking self.now).events rank) }
     {
         match self.events.get(rank) {
             Some(event) => event.first.saturating_add(event.count) > place,
@@ -114,7 +115,7 @@ impl<'a> Marks<'a> {
 
     // Whether an event overlaps one that is marked.
     fn overlaps(&self, first: u32, count: u32) -> bool
-        ensures { Orderly self.now → first + count < 4294967296 → result ≡ some_of (overlapping first count) (marking self.now).events }
+        ensures { first + count < 4294967296 → result ≡ some_of (overlapping first count) (marking self.now).events }
     {
         let rank = self.events.first_at(first);
         if self.starts_before(rank, first.saturating_add(count)) {
@@ -128,9 +129,8 @@ impl<'a> Marks<'a> {
 
     // Marks an event that is not issued: it lies in a day of the book and overlaps none.
     pub fn mark_event(&mut self, first: u32, count: u32) -> Result<(), MarkFault>
-        ensures done { Orderly self.old → EventMarked (marking self.old) (marking self.new) first count result }
+        ensures done { EventMarked (marking self.old) (marking self.new) first count result }
         ensures rest { SameButEvents (marking self.old) (marking self.new) }
-        ensures order { Orderly self.old → Orderly self.new }
     {
         if self.day_of(first).is_none() {
             return Err(MarkFault::DayBeyond);
@@ -146,41 +146,26 @@ impl<'a> Marks<'a> {
             count,
             issued: false,
         };
-        match self.events.insert(event) {
-            Ok(()) => Ok(()),
-            Err(_) => Err(MarkFault::Full),
-        }
-    }
-
-    // Why the event with this first place is not lifted.
-    fn lift_fault(&self, first: u32) -> Option<MarkFault>
-        ensures { Orderly self.now → result ≡ lift_fault (seek event_key first (marking self.now).events) }
-    {
-        match self.events.find(first) {
-            Some(event) if event.issued => Some(MarkFault::Issued),
-            Some(_) => None,
-            None => Some(MarkFault::Absent),
-        }
+        self.events.insert(event)?;
+        Ok(())
     }
 
     // Lifts the event with this first place, where it is not issued.
     pub fn lift_event(&mut self, first: u32) -> Result<(), MarkFault>
-        ensures done { Orderly self.old → EventLifted (marking self.old) (marking self.new) first result }
+        ensures done { EventLifted (marking self.old) (marking self.new) first result }
         ensures rest { SameButEvents (marking self.old) (marking self.new) }
-        ensures order { Orderly self.old → Orderly self.new }
     {
-        if let Some(fault) = self.lift_fault(first) {
-            return Err(fault);
+        let event = self.event_at(first).ok_or(MarkFault::Absent)?;
+        if event.issued {
+            return Err(MarkFault::Issued);
         }
-        match self.events.remove(first) {
-            Ok(_) => Ok(()),
-            Err(_) => Err(MarkFault::Absent),
-        }
+        self.events.remove(first)?;
+        Ok(())
     }
 
     // Whether the event at a rank is its day's first or follows four clear hours.
     fn leads(&self, rank: usize) -> bool
-        ensures { Orderly self.now → rank < length (marking self.now).events → (d : Event) → result ≡ leads (marking self.now).resolution (marking self.now).events (slice_index_or (marking self.now).events rank d) }
+        ensures { rank < length (marking self.now).events → (d : Event) → result ≡ leads (marking self.now).resolution (marking self.now).events (slice_index_or (marking self.now).events rank d) }
     {
         if rank == 0 {
             return true;
@@ -194,9 +179,10 @@ impl<'a> Marks<'a> {
         }
     }
 
-    // The rank of the latest event up to this rank that leads.
+    // The rank of the latest event up to this rank that leads. A `find` over the ranks would have to know that one more
+    // than a rank fits its type, which a closure's argument does not tell; the loop's range does.
     fn lead_rank(&self, rank: usize) -> usize
-        ensures { Orderly self.now → rank < length (marking self.now).events → LeadRank (marking self.now).resolution (marking self.now).events rank result }
+        ensures { rank < length (marking self.now).events → LeadRank (marking self.now).resolution (marking self.now).events rank result }
     {
         for earlier in (0..rank).rev() {
             if self.leads(earlier + 1) {
@@ -209,7 +195,7 @@ impl<'a> Marks<'a> {
     // The lead of the event with this first place: the latest event of its day, itself included and none after it,
     // that is the day's first or follows four clear hours or more.
     pub fn lead(&self, first: u32) -> Option<Event>
-        ensures { Orderly self.now → result ≡ (if is_some (seek event_key first (marking self.now).events) then lead_of (marking self.now).resolution (marking self.now).events first else None) }
+        ensures { result ≡ (if is_some (seek event_key first (marking self.now).events) then lead_of (marking self.now).resolution (marking self.now).events first else None) }
     {
         if self.event_at(first).is_none() {
             return None;

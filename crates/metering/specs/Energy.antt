@@ -22,14 +22,24 @@ abbrev pub energy_of : Option Reading → ℕ
 energy_of None = 0
 energy_of (Some v) = v.energy
 
-module _ (at : Readings) (first count : ℕ) where
+-- a unit's meters: the readings, and so many points from the first on
+pub record Meters : Type 0 where
+  pub at : Readings
+  pub first : ℕ
+  pub count : ℕ
+
+-- the meters of the unit of c points from u on
+abbrev pub unit_meters : Readings → ℕ → ℕ → Meters
+unit_meters at u c = record { at = at; first = u; count = c }
+
+module _ (m : Meters) where
   -- the unit's energy at a place: the sum over its points
   abbrev pub energy_at : ℕ → ℕ
-  energy_at place = sum_by (λ p. energy_of (at p place)) (range_with_len first count)
+  energy_at place = sum_by (λ p. energy_of (m.at p place)) (range_with_len m.first m.count)
 
   -- the first point of the unit that has no reading there
   abbrev pub missing_at : ℕ → Option SourceFault
-  missing_at place = first_in (λ p. cond (is_some (at p place)) None (Some (Missing p place))) (range_with_len first count)
+  missing_at place = first_in (λ p. cond (is_some (m.at p place)) None (Some (Missing p place))) (range_with_len m.first m.count)
 
   -- what is wrong with a source: a missing reading comes before too much energy
   abbrev pub trouble_at : ℕ → Option SourceFault

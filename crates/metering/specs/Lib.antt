@@ -1,3 +1,4 @@
 pub mod Sums
 pub mod Trial
 pub mod Energy
+pub mod Meters

@@ -1,11 +1,12 @@
-// What a unit used: at a place, over a stretch of intervals of a day, and over that stretch on each selected day.
+// What a unit used: at a place, over a stretch of intervals of a day, and over that stretch on each of some days.
 // Where a reading is missing it counts as 0; a settlement tries every source before it adds any.
 ghost use Rattle.std.specs.Prelude.{◌≡◌, ◌+◌, ◌*◌, ◌≤◌, true, false, length, sum_by, MatchOption};
 ghost use Rattle.calendar.specs.Days.{intervals_of};
 ghost use Rattle.choice.specs.Choice.{days_of};
-ghost use Rattle.metering.specs.Energy.{energy_at, energy_of, unit_fits, places};
+ghost use Rattle.metering.specs.Energy.{energy_at, energy_of, unit_fits, unit_meters, places};
+ghost use Rattle.metering.specs.Meters.{meters};
 
-use crate::Unit;
+use crate::{Metered, Unit};
 use calendar::{Resolution, Stretch};
 use choice::Selected;
 use store::{Reading, Store};
@@ -40,17 +41,57 @@ impl Unit {
     }
 }
 
-// The unit's energy at a place: the sum over its points.
-pub fn unit_energy<S: Store>(store: &S, unit: Unit, place: u32) -> u64
-    ensures is { result ≡ energy_at (S.Store.meaning store.now).at unit.first unit.count place }
-    ensures most { result ≤ 1048560 }
-{
-    let mut sum = 0;
-    for i in 0..unit.count {
-        let reading = store.read(unit.first + i, place);
-        sum += energy_of(reading);
+impl<'s, S: Store> Metered<'s, S> {
+    // The meters of a unit in a store.
+    pub fn new(store: &'s S, unit: Unit) -> Metered<'s, S>
+        ensures { meters S.Store.meaning result ≡ unit_meters (S.Store.meaning store.now).at unit.first unit.count }
+    {
+        Metered { store, unit }
     }
-    sum
+
+    // The unit's energy at a place: the sum over its points.
+    pub fn energy(&self, place: u32) -> u64
+        ensures is { result ≡ energy_at (meters S.Store.meaning self.now) place }
+        ensures most { result ≤ 1048560 }
+    {
+        let unit = self.unit;
+        let mut sum = 0;
+        for point in unit.first..unit.first + unit.count {
+            let reading = self.store.read(point, place);
+            sum += energy_of(reading);
+        }
+        sum
+    }
+
+    // The unit's energy over a stretch of a day. The three arguments stay apart, as a struct of them would be made anew
+    // for each day.
+    pub fn energy_over(&self, resolution: Resolution, day: u16, stretch: Stretch) -> u64
+        ensures is { result ≡ sum_by (energy_at (meters S.Store.meaning self.now)) (places (intervals_of resolution) day stretch.first stretch.count) }
+        ensures most { result ≤ 1048560 * 65535 }
+    {
+        let start = resolution.place_of(day, stretch.first);
+        let mut sum = 0;
+        for place in start..start + u32::from(stretch.count) {
+            sum += self.energy(place);
+        }
+        sum
+    }
+
+    // The unit's energy over the same stretch of each selected day.
+    pub fn energy_on_days(
+        &self,
+        resolution: Resolution,
+        selected: &Selected,
+        stretch: Stretch,
+    ) -> u64
+        ensures { result ≡ sum_by (λ d. sum_by (energy_at (meters S.Store.meaning self.now)) (places (intervals_of resolution) d stretch.first stretch.count)) (days_of selected.now) }
+    {
+        selected
+            .days()
+            .iter()
+            .map(|day| self.energy_over(resolution, *day, stretch))
+            .sum()
+    }
 }
 
 // The energy of a reading, 0 where there is none.
@@ -58,45 +99,5 @@ fn energy_of(reading: Option<Reading>) -> u64
     ensures is { result ≡ energy_of reading }
     ensures most { result ≤ 65535 }
 {
-    match reading {
-        Some(reading) => u64::from(reading.energy),
-        None => 0,
-    }
-}
-
-// The unit's energy over a stretch of a day.
-pub fn stretch_energy<S: Store>(
-    store: &S,
-    unit: Unit,
-    resolution: Resolution,
-    day: u16,
-    stretch: Stretch,
-) -> u64
-    ensures is { result ≡ sum_by (energy_at (S.Store.meaning store.now).at unit.first unit.count) (places (intervals_of resolution) day stretch.first stretch.count) }
-    ensures most { result ≤ 1048560 * 65535 }
-{
-    let start = resolution.place_of(day, stretch.first);
-    let mut sum = 0;
-    for i in 0..stretch.count {
-        sum += unit_energy(store, unit, start + u32::from(i));
-    }
-    sum
-}
-
-// The unit's energy over the same stretch of each selected day.
-pub fn days_energy<S: Store>(
-    store: &S,
-    unit: Unit,
-    resolution: Resolution,
-    selected: &Selected,
-    stretch: Stretch,
-) -> u64
-    ensures { result ≡ sum_by (λ d. sum_by (energy_at (S.Store.meaning store.now).at unit.first unit.count) (places (intervals_of resolution) d stretch.first stretch.count)) (days_of selected.now) }
-{
-    let days = selected.days();
-    let mut sum = 0;
-    for day in days {
-        sum += stretch_energy(store, unit, resolution, *day, stretch);
-    }
-    sum
+    reading.map_or(0, |reading| u64::from(reading.energy))
 }

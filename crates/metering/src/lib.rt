@@ -6,12 +6,10 @@ ghost use Rattle.std.specs.Prelude.{◌≡◌, ◌+◌, ◌≤◌};
 ghost use Rattle.metering.specs.Energy.{source_refusal};
 
 use refusal::Refuse;
+use store::Store;
 
 mod energy;
 mod trial;
-
-pub use energy::{days_energy, stretch_energy, unit_energy};
-pub use trial::try_stretch;
 
 // A unit: 1 to 16 neighbouring points, from the first on, of a store of at most 4,096 points.
 #[derive(Clone, Copy, PartialEq, Eq, Debug)]
@@ -19,6 +17,14 @@ pub struct Unit {
     first: u32,
     count: u32,
     ghost fits: { (1 ≤ count) × (count ≤ 16) × (first + count ≤ 4096) },
+}
+
+// A unit's meters: its points, with the store that has their readings. It has no model, since a model's value cannot
+// hold the readings, which are a function.
+#[derive(Drop)]
+pub struct Metered<'s, S: Store> {
+    store: &'s S,
+    unit: Unit,
 }
 
 // Why a source cannot be used.
@@ -33,6 +39,7 @@ pub enum SourceFault {
 impl Refuse for SourceFault {
     ghost refusal = { source_refusal };
 
+    // Causes that carry values have no discriminant to stand for a number.
     fn number(&self) -> u8 {
         match self {
             SourceFault::Missing { .. } => 15,

@@ -3,53 +3,51 @@ ghost use Rattle.std.specs.Prelude.{◌≡◌};
 ghost use Rattle.calendar.specs.Days.{intervals_of};
 ghost use Rattle.metering.specs.Sums.{first_in};
 ghost use Rattle.metering.specs.Energy.{missing_at, trouble_at, places};
+ghost use Rattle.metering.specs.Meters.{meters};
 ghost use Rattle.metering.specs.Trial.{Tried};
 
-use crate::energy::unit_energy;
-use crate::{SourceFault, Unit};
+use crate::{Metered, SourceFault};
 use calendar::{Resolution, Stretch};
-use store::Store;
+use store::{MOST_ENERGY, Store};
 
-// The most energy of a unit in one interval.
-const MOST_ENERGY: u64 = 5000;
-
-// Every point of the unit has a reading at the place.
-fn try_points<S: Store>(store: &S, unit: Unit, place: u32) -> Result<(), SourceFault>
-    ensures { Tried result (missing_at (S.Store.meaning store.now).at unit.first unit.count place) }
-{
-    for i in 0..unit.count {
-        let point = unit.first + i;
-        if store.read(point, place).is_none() {
-            return Err(SourceFault::Missing { point, place });
+impl<'s, S: Store> Metered<'s, S> {
+    // Every point of the unit has a reading at the place.
+    fn try_points(&self, place: u32) -> Result<(), SourceFault>
+        ensures { Tried result (missing_at (meters S.Store.meaning self.now) place) }
+    {
+        let unit = self.unit;
+        for point in unit.first..unit.first + unit.count {
+            self.store
+                .read(point, place)
+                .ok_or(SourceFault::Missing { point, place })?;
         }
+        Ok(())
     }
-    Ok(())
-}
 
-// One place: a missing reading comes before too much energy.
-fn try_place<S: Store>(store: &S, unit: Unit, place: u32) -> Result<(), SourceFault>
-    ensures { Tried result (trouble_at (S.Store.meaning store.now).at unit.first unit.count place) }
-{
-    try_points(store, unit, place)?;
-    if unit_energy(store, unit, place) > MOST_ENERGY {
-        return Err(SourceFault::AboveLimit { place });
+    // One place: a missing reading comes before too much energy.
+    fn try_place(&self, place: u32) -> Result<(), SourceFault>
+        ensures { Tried result (trouble_at (meters S.Store.meaning self.now) place) }
+    {
+        self.try_points(place)?;
+        if self.energy(place) > u64::from(MOST_ENERGY) {
+            return Err(SourceFault::AboveLimit { place });
+        }
+        Ok(())
     }
-    Ok(())
-}
 
-// A stretch of a day, its intervals rising.
-pub fn try_stretch<S: Store>(
-    store: &S,
-    unit: Unit,
-    resolution: Resolution,
-    day: u16,
-    stretch: Stretch,
-) -> Result<(), SourceFault>
-    ensures { Tried result (first_in (trouble_at (S.Store.meaning store.now).at unit.first unit.count) (places (intervals_of resolution) day stretch.first stretch.count)) }
-{
-    let start = resolution.place_of(day, stretch.first);
-    for i in 0..stretch.count {
-        try_place(store, unit, start + u32::from(i))?;
+    // A stretch of a day, its intervals rising.
+    pub fn try_stretch(
+        &self,
+        resolution: Resolution,
+        day: u16,
+        stretch: Stretch,
+    ) -> Result<(), SourceFault>
+        ensures { Tried result (first_in (trouble_at (meters S.Store.meaning self.now)) (places (intervals_of resolution) day stretch.first stretch.count)) }
+    {
+        let start = resolution.place_of(day, stretch.first);
+        for place in start..start + u32::from(stretch.count) {
+            self.try_place(place)?;
+        }
+        Ok(())
     }
-    Ok(())
 }

@@ -3,6 +3,7 @@ use Rattle.std.specs.Prelude.{◌≡◌, ℕ, ◌*◌, ◌/◌, ◌<◌, ◌≤�
 use Rattle.std.proofs.Common.{◌∙◌, ⊎_elim, mul-le-mul_left, mul-le-mul_right, mul_comm, mul_assoc, mul_left_comm, le_trans, arith}
 use Rattle.std.proofs.Math.Nat.{div-le_of_le-mul}
 use Rattle.std.proofs.lemmas.Bool.{cond-true, cond-false, cases_Bool, eqb-true, eqb-false, ltb-true, ltb-false}
+use Rattle.std.proofs.lemmas.Bool.Decides.{nat_tests}
 use Rattle.method.specs.Baseline.{top, under}
 use Rattle.method.specs.Rounding.{quotients_le}
 
@@ -88,10 +89,4 @@ below v w a n hn h =
 
 -- the capped fraction is over a number above 0
 pub under_some : (v w a n : ℕ) → 0 < n → 0 < under w a n
-under_some v w a n h =
-    elim (cases v w a n) [
-      | plain z t u ↦ rw u h
-      | low p f t u ↦ rw u (omega arith)
-      | high p f t u ↦ rw u (omega arith)
-      | between p f g t u ↦ rw u p
-    ]
+under_some v w a n h = grind (arith, nat_tests)

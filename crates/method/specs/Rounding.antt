@@ -1,7 +1,6 @@
 -- Quotients rounded down. Assumes nothing.
-use Rattle.std.specs.Prelude.{◌≡◌, ℕ, zero, suc, ◌+◌, ◌*◌, ◌/◌, ◌<◌, ◌≤◌, ℤ, pos, negsuc, ◌+ℤ◌, ◌*ℤ◌, neg_ℤ, ◌≤ℤ◌, ◌<ℤ◌}
-use Rattle.std.proofs.Common.{subst, le-div_iff_mul-le, div-mul-le_self, mul-le-mul_right, le_trans, mul_comm, mul_right_comm, le_of_mul-le-mul_right, div-lt_iff_lt-mul, suc-mul, zero-mul, arith}
-use Rattle.std.proofs.Math.Nat.{lt-div-mul-add, div-le_of_le-mul}
+use Rattle.std.specs.Prelude.{ℕ, ◌*◌, ◌/◌, ◌<◌, ◌≤◌, ℤ, pos, negsuc, neg_ℤ, ◌≤ℤ◌}
+use Rattle.std.proofs.Common.{le-div_iff_mul-le, div-mul-le_self, mul-le-mul_right, le_trans, mul_right_comm, le_of_mul-le-mul_right, arith}
 use Rattle.std.specs.Int.{int_div_euclid}
 use Rattle.std.proofs.lemmas.Int.{ints}
 use Rattle.method.specs.Baseline.{Floor}
@@ -26,28 +25,9 @@ floor_rises (negsuc a) (negsuc b) d h le =
     let q : b / d ≤ a / d = quotients_le b d a d h h (mul-le-mul_right d l) in
     omega (arith, ints)
 
-above_neg : (a q d : ℕ) → q * d ≤ a → negsuc a <ℤ (neg_ℤ (pos q) *ℤ pos d)
-above_neg a zero d low = omega (arith, ints, zero-mul d)
-above_neg a (suc q) d low = omega (arith, ints)
-
-one_up : (q : ℕ) → neg_ℤ (pos q) ≡ negsuc q +ℤ pos 1
-one_up q = omega (arith, ints)
-
 -- it is the floor
 pub floor_is : (x : ℤ) (d : ℕ) → 0 < d → Floor x d (int_div_euclid x (pos d))
-floor_is (pos a) d h =
-    let low : a / d * d ≤ a = div-mul-le_self a d in
-    let high : a < a / d * d + d = lt-div-mul-add h in
-    (omega (arith, ints), omega (arith, ints, suc-mul (a / d) d))
-floor_is (negsuc a) d h =
-    let low : a / d * d ≤ a = div-mul-le_self a d in
-    let high : a < a / d * d + d = lt-div-mul-add h in
-    (omega (arith, ints, suc-mul (a / d) d), subst (λ (z : ℤ). negsuc a <ℤ (z *ℤ pos d)) (one_up (a / d)) (above_neg a (a / d) d low))
+floor_is x d h = grind (arith, ints)
 
 pub floor_within : (x : ℤ) (d low high : ℕ) → 0 < d → neg_ℤ (pos (low * d)) ≤ℤ x → x ≤ℤ pos (high * d) → (neg_ℤ (pos low) ≤ℤ int_div_euclid x (pos d)) × (int_div_euclid x (pos d) ≤ℤ pos high)
-floor_within (pos a) d low high h l u =
-    let q : a / d ≤ high = div-le_of_le-mul d (rw mul_comm (omega (arith, ints))) in
-    (omega (arith, ints), omega (arith, ints))
-floor_within (negsuc a) d low high h l u =
-    let q : a / d < low = (div-lt_iff_lt-mul h).1 (omega (arith, ints)) in
-    (omega (arith, ints), omega (arith, ints))
+floor_within x d low high h l u = grind (arith, ints)

@@ -10,30 +10,32 @@ use refusal::Refuse;
 #[derive(Clone, Copy, PartialEq, Eq, Debug)]
 pub enum MethodFault {
     // there is no methodology of this number
-    Unknown,
+    Unknown = 21,
 }
 
 impl Refuse for MethodFault {
     ghost refusal = { method_refusal };
 
     fn number(&self) -> u8 {
-        match self {
-            MethodFault::Unknown => 21,
-        }
+        *self as u8
     }
 }
 
 // The methodology of a number, which is 1 to 5.
-pub fn numbered(number: u8) -> Result<Numbered, MethodFault>
-    ensures { result ≡ known number }
-{
-    match number {
-        1 => Ok(Numbered::Capped(Capped::AllDays)),
-        2 => Ok(Numbered::Capped(Capped::BusinessDays)),
-        3 => Ok(Numbered::Capped(Capped::NonBusinessDays)),
-        4 => Ok(Numbered::Capped(Capped::Composite)),
-        5 => Ok(Numbered::SimilarDays(SimilarDays)),
-        _ => Err(MethodFault::Unknown),
+impl TryFrom<u8> for Numbered {
+    type Error = MethodFault;
+
+    ghost try_from_gives = { λ number r. r ≡ known number };
+
+    fn try_from(number: u8) -> Result<Numbered, MethodFault> {
+        match number {
+            1 => Ok(Numbered::Capped(Capped::AllDays)),
+            2 => Ok(Numbered::Capped(Capped::BusinessDays)),
+            3 => Ok(Numbered::Capped(Capped::NonBusinessDays)),
+            4 => Ok(Numbered::Capped(Capped::Composite)),
+            5 => Ok(Numbered::SimilarDays(SimilarDays)),
+            _ => Err(MethodFault::Unknown),
+        }
     }
 }
 
@@ -45,11 +47,11 @@ mod tests {
     use std::process::Abort;
     use std::test::Fail;
 
-    // Served, matched by business days and by others, days wanted, the least, test days.
+    // Served, matched by business days and by others, days wanted, the least, test days; a tuple, so that a row is a line.
     type Row = (bool, bool, bool, u8, u8, u8);
 
     fn row_of(number: u8, kind: DayKind) -> Result<Row, MethodFault> {
-        let method = numbered(number)?;
+        let method = Numbered::try_from(number)?;
         let business = method.matches(kind, DayKind::Business);
         let other = method.matches(kind, DayKind::NonBusiness);
         Ok((
@@ -64,8 +66,8 @@ mod tests {
 
     // The rows of the methodologies 1 to 5.
     fn check_rows(rt: &impl Abort, kind: DayKind, rows: [Row; 5]) -> Result<(), Fail> {
-        for i in 0..5 {
-            assert_eq!(rt; row_of(i as u8 + 1, kind)?, rows[i]);
+        for (number, row) in (1..=5).zip(rows) {
+            assert_eq!(rt; row_of(number, kind)?, row);
         }
         Ok(())
     }
@@ -102,6 +104,6 @@ mod tests {
 
     #[test]
     fn unknown_numbers(rt: HostRuntime) {
-        assert!(rt; numbered(0).is_err() && numbered(6).is_err());
+        assert!(rt; Numbered::try_from(0).is_err() && Numbered::try_from(6).is_err());
     }
 }

@@ -2,6 +2,9 @@
 ghost use Rattle.std.specs.Prelude.{◌≡◌, ◌*◌, ◌<◌, ◌≤◌, MatchOption};
 ghost use Rattle.method.specs.Energy.{Sound};
 
+// The most energy of an interval.
+const MOST: u64 = 5000;
+
 // V is the energy of the line's interval over the n days, W that of the window over them, and A that of the window on the event's day.
 #[derive(Clone, Copy)]
 pub struct Energies {
@@ -15,16 +18,16 @@ pub struct Energies {
 }
 
 impl Energies {
-    // None where there are no days or no intervals, or an energy is above its limit.
+    // None where there are no days or no intervals, or an energy is above its limit. The five numbers come apart here alone.
     pub fn new(v: u64, w: u64, a: u64, n: u16, m: u16) -> Option<Energies>
         ensures { MatchOption result (Sound v w a n m → ⊥) (λ e. Sound v w a n m × (e.v ≡ v) × (e.w ≡ w) × (e.a ≡ a) × (e.n ≡ n) × (e.m ≡ m)) }
     {
         if n == 0 || m == 0 {
             return None;
         }
-        let days = n as u64;
-        let intervals = m as u64;
-        if v > 5000 * days || w > 5000 * (days * intervals) || a > 5000 * intervals {
+        let days = u64::from(n);
+        let intervals = u64::from(m);
+        if v > MOST * days || w > MOST * (days * intervals) || a > MOST * intervals {
             return None;
         }
         Some(Energies { v, w, a, n, m })

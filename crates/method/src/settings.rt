@@ -1,23 +1,14 @@
 // The settings of the methodologies: the days that they serve, match, want and test.
-ghost use Rattle.std.specs.Prelude.{◌≡◌, ◌-◌, ◌≤◌};
-ghost use Rattle.method.specs.Table.{served_by, matched_by, count_on, settings_of};
+ghost use Rattle.std.specs.Prelude.{◌≡◌};
+ghost use Rattle.method.specs.Table.{served_by, matched_by, count_on};
 
 use calendar::DayKind;
-
-// The kinds of event day that a methodology serves.
-#[derive(Clone, Copy)]
-pub enum Served {
-    All,
-    Business,
-    NonBusiness,
-}
 
 // The kinds of past day that match an event's day.
 #[derive(Clone, Copy)]
 pub enum Matching {
     All,
-    Business,
-    NonBusiness,
+    Only(DayKind),
     SameKind,
 }
 
@@ -30,7 +21,8 @@ pub struct Count {
 
 #[derive(Clone, Copy)]
 pub struct Settings {
-    pub serves: Served,
+    // the one kind of event day that is served, where not all are
+    pub only: Option<DayKind>,
     pub matching: Matching,
     pub business: Count,
     pub non_business: Count,
@@ -55,38 +47,38 @@ const TEN: Count = Count {
     minimum: 10,
 };
 
-// The methodologies 1 to 5: all days, business days, non-business days, composite, similar days.
-const SETTINGS: [Settings; 5] = [
+// The one table of the methodologies 1 to 5: all days, business days, non-business days, composite, similar days.
+pub(crate) const SETTINGS: [Settings; 5] = [
     Settings {
-        serves: Served::All,
+        only: None,
         matching: Matching::All,
         business: TEN_OR_FIVE,
         non_business: TEN_OR_FIVE,
         test_days: 50,
     },
     Settings {
-        serves: Served::Business,
-        matching: Matching::Business,
+        only: Some(DayKind::Business),
+        matching: Matching::Only(DayKind::Business),
         business: TEN_OR_FIVE,
         non_business: TEN_OR_FIVE,
         test_days: 50,
     },
     Settings {
-        serves: Served::NonBusiness,
-        matching: Matching::NonBusiness,
+        only: Some(DayKind::NonBusiness),
+        matching: Matching::Only(DayKind::NonBusiness),
         business: FOUR,
         non_business: FOUR,
         test_days: 20,
     },
     Settings {
-        serves: Served::All,
+        only: None,
         matching: Matching::SameKind,
         business: TEN_OR_FIVE,
         non_business: FOUR,
         test_days: 50,
     },
     Settings {
-        serves: Served::All,
+        only: None,
         matching: Matching::SameKind,
         business: TEN,
         non_business: TEN,
@@ -94,38 +86,22 @@ const SETTINGS: [Settings; 5] = [
     },
 ];
 
-// The settings of a methodology by its number.
-pub(crate) fn settings_by(number: u8) -> Settings
-    requires { (1 ≤ number) × (number ≤ 5) }
-    ensures { result ≡ settings_of number }
-{
-    SETTINGS[number as usize - 1]
-}
-
 impl Settings {
     // Whether an event on a day of the kind is served.
     pub fn serves(&self, kind: DayKind) -> bool
         ensures { result ≡ served_by self.now kind }
     {
-        match (self.serves, kind) {
-            (Served::All, _) => true,
-            (Served::Business, DayKind::Business) => true,
-            (Served::NonBusiness, DayKind::NonBusiness) => true,
-            _ => false,
-        }
+        self.only.is_none_or(|only| kind == only)
     }
 
     // Whether a past day matches a day of the kind.
     pub fn matches(&self, day: DayKind, past: DayKind) -> bool
         ensures { result ≡ matched_by self.now day past }
     {
-        match (self.matching, day, past) {
-            (Matching::All, _, _) => true,
-            (Matching::Business, _, DayKind::Business) => true,
-            (Matching::NonBusiness, _, DayKind::NonBusiness) => true,
-            (Matching::SameKind, DayKind::Business, DayKind::Business) => true,
-            (Matching::SameKind, DayKind::NonBusiness, DayKind::NonBusiness) => true,
-            _ => false,
+        match self.matching {
+            Matching::All => true,
+            Matching::Only(kind) => past == kind,
+            Matching::SameKind => past == day,
         }
     }
 

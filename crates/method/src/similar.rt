@@ -6,7 +6,7 @@ ghost use Rattle.method.specs.Lawful.{similar_lawful};
 
 use crate::energies::Energies;
 use crate::methodology::Methodology;
-use crate::settings::{Settings, settings_by};
+use crate::settings::{SETTINGS, Settings};
 
 #[derive(Clone, Copy)]
 pub struct SimilarDays;
@@ -25,12 +25,12 @@ impl Methodology for SimilarDays {
     ghost lawful = { similar_lawful };
 
     fn settings(&self) -> Settings {
-        settings_by(5)
+        SETTINGS[4]
     }
 
     fn baseline(&self, e: &Energies) -> i32 {
-        let n = e.n as u64;
-        let m = e.m as u64;
+        let n = u64::from(e.n);
+        let m = u64::from(e.m);
         let sum = (m * e.v + n * e.a) as i64 - e.w as i64;
         rounded_down(sum, (n * m) as i64) as i32
     }

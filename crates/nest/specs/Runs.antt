@@ -1,5 +1,5 @@
 -- A short run of calls on a store, and its answers. Assumes nothing.
-use Rattle.std.specs.Prelude.{◌≡◌, ℕ, cond, Some, None, Option, nat_le}
+use Rattle.std.specs.Prelude.{◌≡◌, ℕ, cond, Some, None, Option, Ok, Err, nat_le}
 use Rattle.store.specs.declared.Reading.{Reading}
 use Rattle.store.specs.declared.StoreFault.TheVariants.{Nothing}
 use Rattle.store.specs.Meaning.{Meaning}
@@ -21,7 +21,7 @@ taken e = cond (nat_le e 5000) (Some (record { energy = e })) None
 abbrev pub seen : ℕ → ℕ → Seen
 seen x y = record {
   first = taken x;
-  fault = cond (nat_le x 5000) None (Some Nothing);
+  voiding = cond (nat_le x 5000) (Ok tt) (Err Nothing);
   voided = None;
   second = taken y;
   neighbour = None;

@@ -4,7 +4,7 @@ ghost use Rattle.nest.specs.Runs.{Fresh, seen};
 
 use crate::Seen;
 use sparse::{PlacedReading, Sparse};
-use store::{Clock, Lent, Pair, Reading, Store};
+use store::{Clock, Pair, Reading, Store};
 use table::Table;
 
 const AHEAD: u32 = 2;
@@ -15,19 +15,13 @@ fn run<S: Store>(store: &mut S, x: u16, y: u16) -> Seen
 {
     let _ = store.enter(0, 3, Reading { energy: x });
     let _ = store.enter(2, 5, Reading { energy: y });
-    let first = store.read(0, 3);
-    let fault = store.void(0, 3).err();
-    let voided = store.read(0, 3);
-    let second = store.read(2, 5);
-    let neighbour = store.read(2, 4);
-    let free = store.free(2);
     Seen {
-        first,
-        fault,
-        voided,
-        second,
-        neighbour,
-        free,
+        first: store.read(0, 3),
+        voiding: store.void(0, 3),
+        voided: store.read(0, 3),
+        second: store.read(2, 5),
+        neighbour: store.read(2, 4),
+        free: store.free(2),
     }
 }
 
@@ -37,13 +31,9 @@ pub fn through_layers(x: u16, y: u16) -> Seen
 {
     let mut readings = [0u16; 16];
     let mut present = [0u8; 2];
-    let mut slots = [PlacedReading {
-        place: 0,
-        energy: 0,
-    }; 3];
-    let mut table = Table::new(&mut readings, &mut present, 2, 8);
-    let mut sparse = Sparse::new(8, &mut slots);
-    let pair = Pair::new(Lent::new(&mut table), Lent::new(&mut sparse));
-    let mut store = Clock::new(pair, AHEAD);
+    let mut slots = [PlacedReading::default(); 3];
+    let table = Table::new(&mut readings, &mut present, 2, 8);
+    let sparse = Sparse::new(8, &mut slots);
+    let mut store = Clock::new(Pair::new(table, sparse), AHEAD);
     run(&mut store, x, y)
 }

@@ -13,8 +13,8 @@ pub use layers::through_layers;
 pub struct Seen {
     // what stands where x was entered, before it is voided
     pub first: Option<Reading>,
-    // why x is not voided, if so
-    pub fault: Option<StoreFault>,
+    // how the voiding of x is answered
+    pub voiding: Result<(), StoreFault>,
     // what stands there afterwards
     pub voided: Option<Reading>,
     // what stands where y was entered

@@ -13,7 +13,7 @@
 #![tactic(auto)]
 
 use calendar::Resolution;
-use marks::{DayMark, Event};
+use marks::{DayMark, Event, MarkKind};
 use method::similar::SimilarDays;
 use settlement::{Book, Line, Points};
 use store::{Reading, Store};
@@ -50,15 +50,6 @@ const FIVE_MINUTES: Example = Example {
     window: 2680,
     morning: 3400,
     metered: 50,
-};
-
-const BLANK_LINE: Line = Line {
-    day: 0,
-    interval: 0,
-    days: 0,
-    baseline: 0,
-    metered: 0,
-    reduction: 0,
 };
 
 // Enters an energy over neighbouring intervals, as evenly as whole units go.
@@ -113,7 +104,8 @@ fn enter_days<S: Store>(store: &mut S, example: Example) {
     );
 }
 
-// Prints the selected days and the settlement.
+// Prints the selected days and the settlement, in a few lines that the month of two cold stores has too: a crate for them
+// alone would be longer than they are.
 fn print_settled<S: Store>(
     rt: &HostRuntime,
     store: &S,
@@ -126,7 +118,7 @@ fn print_settled<S: Store>(
         print!(rt; " {day}")?;
     }
     rt.println("")?;
-    let mut lines = [BLANK_LINE; 24];
+    let mut lines = [Line::default(); 24];
     let mut text = [0u8; 2048];
     let points = Points { first: 0, count: 1 };
     let Ok(settlement) = settlement::settle(store, book, points, &SimilarDays, first, &mut lines)
@@ -135,9 +127,9 @@ fn print_settled<S: Store>(
         return Ok(());
     };
     let count = settlement.count() as usize;
-    match report::report(&lines[0..count], settlement.sum(), &mut text) {
-        Ok(size) if size <= 2048 => rt.stdout().write_all(&text[0..size])?,
-        _ => rt.println("the text is too long")?,
+    match report::report(&lines[..count], settlement.sum(), &mut text) {
+        Ok(size) => rt.stdout().write_all(&text[..size])?,
+        Err(_) => rt.println("the text is too long")?,
     }
     Ok(())
 }
@@ -150,13 +142,9 @@ fn run(rt: &HostRuntime, example: Example) -> anyhow::Result<()> {
     let days = u32::from(example.day) + 1;
     let mut readings = vec![in heap; 0u16; 112_320]?;
     let mut present = vec![in heap; 0u8; 14_040]?;
-    let mut holidays = [DayMark { day: 0 }; 2];
-    let mut exclusions = [DayMark { day: 0 }; 2];
-    let mut events = [Event {
-        first: 0,
-        count: 0,
-        issued: false,
-    }; 4];
+    let mut holidays = [DayMark::default(); 2];
+    let mut exclusions = [DayMark::default(); 2];
+    let mut events = [Event::default(); 4];
     let mut store = Table::new(
         readings.as_mut_slice(),
         present.as_mut_slice(),
@@ -168,7 +156,7 @@ fn run(rt: &HostRuntime, example: Example) -> anyhow::Result<()> {
     let first = example
         .resolution
         .place_of(example.day, afternoon(example.resolution));
-    let _ = book.mark_holiday(example.holiday);
+    let _ = book.mark_day(MarkKind::Holiday, example.holiday);
     let _ = book.mark_event(first.saturating_sub(intervals), 2 * hour);
     let _ = book.mark_event(first, 2 * hour);
     print_settled(rt, &store, &book, example, first)

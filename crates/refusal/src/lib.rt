@@ -15,15 +15,13 @@ pub trait Refuse {
 // Why a store, a clock or a book cannot be made as asked.
 #[derive(Clone, Copy, PartialEq, Eq, Debug)]
 pub enum MakeFault {
-    Limits,
+    Limits = 22,
 }
 
 impl Refuse for MakeFault {
     ghost refusal = { make_refusal };
 
     fn number(&self) -> u8 {
-        match self {
-            MakeFault::Limits => 22,
-        }
+        *self as u8
     }
 }

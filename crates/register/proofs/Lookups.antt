@@ -1,15 +1,17 @@
 -- What a look-up by key finds, before and after an edit. Assumes nothing.
-use Rattle.std.proofs.Common.{◌≡◌, ℕ, zero, suc, ◌<◌, ◌≤◌, Bool, true, false, cond, eqb, List, [], ◌∷◌, length, get_or, set, Some, None, Option, sym, refl, ap, ◌∙◌, ⊎_elim, arith}
+use Rattle.std.proofs.Common.{◌≡◌, ℕ, zero, suc, ◌<◌, ◌≤◌, Bool, true, false, cond, eqb, List, [], ◌∷◌, length, get_or, set, Some, None, Option, Result, Ok, Err, sym, refl, ap, ◌∙◌, ⊎_elim, arith}
 use Rattle.std.specs.List.{insert, remove, slice_get}
+use Rattle.std.specs.Result.{result_ok}
 use Rattle.std.proofs.lemmas.Option.{slice_get-get_or, slice_get_past}
-use Rattle.std.proofs.lemmas.Bool.{cases_lt, cases_eq, eqb-true, eq-eqb, ne_eqb, cond-true, cond-false}
+use Rattle.std.proofs.lemmas.Bool.{cases_lt, eqb-true, eq-eqb, ne_eqb, cond-true, cond-false}
 use Rattle.std.proofs.lemmas.List.{get_or_default}
 use Rattle.std.proofs.lemmas.Bool.Decides.{nat_tests}
-use Rattle.register.specs.Order.{spot, seek, Rising}
-use Rattle.register.proofs.Places.{absent, spot_at, spot_is, not_at, not_past}
+use Rattle.register.specs.Rising.{Rising}
+use Rattle.register.specs.Order.{spot, seek, Located}
+use Rattle.register.proofs.Places.{absent, spot_is}
 
 none_parts : {X : Type 0} (b : Bool) (x : X) (o : Option X) → cond b (Some x) o ≡ None → (b ≡ false) × (o ≡ None)
-none_parts true x o e = let z : ◌≡◌ {A = ℕ} 0 1 = cc in absurd (omega arith)
+none_parts true x o e = absurd cc
 none_parts false x o e = (refl, e)
 
 -- where a look-up finds nothing, no record has the key
@@ -23,17 +25,27 @@ pub nth_some : {X : Type 0} (xs : List X) (i : ℕ) (y : X) → slice_get xs i �
 nth_some xs i y e =
     ⊎_elim
     (λ (l : i < length xs). (l, λ d. let w = slice_get-get_or xs i d l in cc))
-    (λ (l : length xs ≤ i). let w = slice_get_past xs i l in let z : ◌≡◌ {A = ℕ} 0 1 = cc in absurd (omega arith))
+    (λ (l : length xs ≤ i). let w = slice_get_past xs i l in absurd cc)
     (cases_lt i (length xs))
 
--- what a look-up finds has the key
-key_split : {X : Type 0} (key : X → ℕ) (k : ℕ) (x y : X) (o : Option X) (b : Bool) → eqb k (key x) ≡ b → (o ≡ Some y → key y ≡ k) → cond b (Some x) o ≡ Some y → key y ≡ k
-key_split key k x y o true b h e = let z : x ≡ y = cc in ap key (sym z) ∙ sym (eqb-true k (key x) b)
-key_split key k x y o false b h e = h e
+-- y stands in xs, and has the key k
+record Stands {X : Type 0} (key : X → ℕ) (k : ℕ) (xs : List X) (y : X) : Type 0 where
+  rank : ℕ
+  lt : rank < length xs
+  at : (d : X) → get_or xs rank d ≡ y
+  keyed : key y ≡ k
+
+stands_split : {X : Type 0} (key : X → ℕ) (k : ℕ) (x y : X) (xs : List X) (b : Bool) → eqb k (key x) ≡ b → (seek key k xs ≡ Some y → Stands key k xs y) → cond b (Some x) (seek key k xs) ≡ Some y → Stands key k (x ∷ xs) y
+stands_split key k x y xs true b h e = let z : x ≡ y = cc in record { rank = 0; lt = omega arith; at = λ d. z; keyed = ap key (sym z) ∙ sym (eqb-true k (key x) b) }
+stands_split key k x y xs false b h e = let r = h e in record { rank = suc r.rank; lt = omega (arith, r.lt); at = r.at; keyed = r.keyed }
+
+-- what a look-up finds stands there
+stands : {X : Type 0} (key : X → ℕ) (k : ℕ) (xs : List X) (y : X) → seek key k xs ≡ Some y → Stands key k xs y
+stands key k [] y e = absurd cc
+stands key k (x ∷ xs) y e = stands_split key k x y xs (eqb k (key x)) refl (stands key k xs y) e
 
 pub seek_key : {X : Type 0} (key : X → ℕ) (k : ℕ) (xs : List X) (y : X) → seek key k xs ≡ Some y → key y ≡ k
-seek_key key k [] y e = let z : ◌≡◌ {A = ℕ} 0 1 = cc in absurd (omega arith)
-seek_key key k (x ∷ xs) y e = key_split key k x y (seek key k xs) (eqb k (key x)) refl (seek_key key k xs y) e
+seek_key key k xs y e = (stands key k xs y e).keyed
 
 -- k stands at s and nowhere else
 pub record Sole {X : Type 0} (key : X → ℕ) (k : ℕ) (xs : List X) (s : ℕ) : Type 0 where
@@ -68,65 +80,38 @@ module _ {X : Type 0} (key : X → ℕ) (k : ℕ) where
   seek_sole (x ∷ xs) zero h d = cond-true (eqb k (key x)) (Some x) (seek key k xs) (eq-eqb k (key x) (sym (h.at x)))
   seek_sole (x ∷ xs) (suc s) h d = cond-false (eqb k (key x)) (Some x) (seek key k xs) (not_head x xs s h) ∙ seek_sole xs s (later x xs s h) d
 
-swap : {X : Type 0} (a b : Bool) (x y z : X) → (a ≡ true → b ≡ true → ⊥) → cond a x (cond b y z) ≡ cond b y (cond a x z)
-swap true true x y z n = absurd (n refl refl)
-swap true false x y z n = refl
-swap false true x y z n = refl
-swap false false x y z n = refl
+-- a test for k before one for m, where k is not m ..
+moved : {X : Type 0} (j k m : ℕ) (x y o : X) → eqb k m ≡ false → cond (eqb j m) x (cond (eqb j k) y o) ≡ cond (eqb j k) y (cond (eqb j m) x o)
+moved j k m x y o e = grind (arith, nat_tests)
 
-apart : (j k m : ℕ) → eqb k m ≡ false → eqb j m ≡ true → eqb j k ≡ true → ⊥
-apart j k m n a b = grind (arith, nat_tests)
+-- .. and where it is
+gone : {X : Type 0} (j k m : ℕ) (x n o : X) → m ≡ k → (j ≡ k → o ≡ n) → o ≡ cond (eqb j k) n (cond (eqb j m) x o)
+gone j k m x n o e f = grind (arith, nat_tests)
 
-alike : (j k m : ℕ) → m ≡ k → eqb j k ≡ false → eqb j m ≡ false
-alike j k m e f = grind (arith, nat_tests)
-
-out_split : {X : Type 0} (a b : Bool) (x o n : X) → (a ≡ true → o ≡ n) → (a ≡ false → b ≡ false) → o ≡ cond a n (cond b x o)
-out_split true b x o n p q = p refl
-out_split false true x o n p q = let e = q refl in let z : ◌≡◌ {A = ℕ} 0 1 = cc in absurd (omega arith)
-out_split false false x o n p q = refl
-
-over_split : {X : Type 0} (a b : Bool) (y x o : X) → (a ≡ false → b ≡ false) → cond a y o ≡ cond a y (cond b x o)
-over_split true b y x o q = refl
-over_split false true y x o q = let e = q refl in let z : ◌≡◌ {A = ℕ} 0 1 = cc in absurd (omega arith)
-over_split false false y x o q = refl
+over : {X : Type 0} (j k m : ℕ) (x y o : X) → m ≡ k → cond (eqb j k) y o ≡ cond (eqb j k) y (cond (eqb j m) x o)
+over j k m x y o e = grind (arith, nat_tests)
 
 module _ {X : Type 0} (key : X → ℕ) where
   -- the record at a rank is found by its key
   pub seek_at : (k : ℕ) (xs : List X) → Rising key xs → (i : ℕ) (d : X) → i < length xs → key (get_or xs i d) ≡ k → seek key k xs ≡ Some (get_or xs i d)
   seek_at k xs rise i d l e = seek_sole key k xs i (sole key k xs i rise l (λ f. ap key (get_or_default xs i f d l) ∙ e)) d
 
+  -- .. which is what `get` gives there
+  pub seek_at_rank : (k : ℕ) (xs : List X) → Rising key xs → (i : ℕ) → i < length xs → ((d : X) → key (get_or xs i d) ≡ k) → seek key k xs ≡ slice_get xs i
+  seek_at_rank k [] rise i l e = absurd (omega (arith, l))
+  seek_at_rank k (x ∷ xs) rise i l e = seek_at k (x ∷ xs) rise i x l (e x) ∙ sym (slice_get-get_or (x ∷ xs) i x l)
+
+  -- .. where a search stops
+  pub seek_located : (k : ℕ) (xs : List X) → Rising key xs → (r : Result ℕ ℕ) → Located key k xs r → (i : ℕ) → result_ok r ≡ Some i → seek key k xs ≡ slice_get xs i
+  seek_located k xs rise (Ok j) h i e = let z : j ≡ i = cc in seek_at_rank k xs rise j h.0 h.1 ∙ ap (slice_get xs) z
+  seek_located k xs rise (Err j) h i e = cc
+
   -- what a look-up finds stands at the spot of its key
   pub seek_some : (k : ℕ) (xs : List X) → Rising key xs → (y : X) → seek key k xs ≡ Some y → (spot key k xs < length xs) × ((d : X) → get_or xs (spot key k xs) d ≡ y)
   seek_some k xs rise y e =
-      let s = spot key k xs in
-      ⊎_elim
-      (λ (l : s < length xs).
-      ⊎_elim
-      (λ (q : key (get_or xs s y) ≡ k). (l, λ d. get_or_default xs s d y l ∙ (let w = seek_at k xs rise s y l q in cc)))
-      (λ (n : key (get_or xs s y) ≡ k → ⊥). let w = not_at key k xs rise s y refl n in let z : ◌≡◌ {A = ℕ} 0 1 = cc in absurd (omega arith))
-      (cases_eq (key (get_or xs s y)) k))
-      (λ (l : length xs ≤ s). let w = not_past key k xs rise l in let z : ◌≡◌ {A = ℕ} 0 1 = cc in absurd (omega arith))
-      (cases_lt s (length xs))
-
-  -- the record that `get` gives at a rank, and the one that a look-up gives
-  pub nth_seek : (xs : List X) → Rising key xs → (i : ℕ) (y : X) → slice_get xs i ≡ Some y → seek key (key y) xs ≡ Some y
-  nth_seek xs rise i y e = let r = nth_some xs i y e in seek_at (key y) xs rise i y r.0 (ap key (r.1 y)) ∙ ap Some (r.1 y)
-
-  pub seek_nth : (k : ℕ) (xs : List X) → Rising key xs → (y : X) → seek key k xs ≡ Some y → slice_get xs (spot key k xs) ≡ Some y
-  seek_nth k xs rise y e = let r = seek_some k xs rise y e in slice_get-get_or xs (spot key k xs) y r.0 ∙ ap Some (r.1 y)
-
-  -- the record at the spot of k has a key of at least k
-  pub nth_spot : (k : ℕ) (xs : List X) (y : X) → slice_get xs (spot key k xs) ≡ Some y → k ≤ key y
-  nth_spot k xs y e = let r = nth_some xs (spot key k xs) y e in let w : key (get_or xs (spot key k xs) y) ≡ key y = ap key (r.1 y) in omega (arith, spot_at key k xs y r.0)
-
-  -- of two records the later has the greater key
-  pub nth_rises : (xs : List X) → Rising key xs → (i j : ℕ) (x y : X) → i < j → slice_get xs i ≡ Some x → slice_get xs j ≡ Some y → key x < key y
-  nth_rises xs rise i j x y h e f =
-      let r = nth_some xs i x e in
-      let q = nth_some xs j y f in
-      let v : key (get_or xs i y) ≡ key x = ap key (r.1 y) in
-      let w : key (get_or xs j y) ≡ key y = ap key (q.1 y) in
-      omega (arith, rise i j y (h, q.0))
+      let r = stands key k xs y e in
+      let s : r.rank ≡ spot key k xs = spot_is key k xs rise r.rank y r.lt (ap key (r.at y) ∙ r.keyed) in
+      (omega (arith, r.lt), λ d. ap (λ i. get_or xs i d) (sym s) ∙ r.at d)
 
   -- after an insertion
   pub seek_inserted : (y : X) (xs : List X) (s : ℕ) → seek key (key y) xs ≡ None → (j : ℕ) → seek key j (insert xs s y) ≡ cond (eqb j (key y)) (Some y) (seek key j xs)
@@ -136,23 +121,20 @@ module _ {X : Type 0} (key : X → ℕ) where
   seek_inserted y (x ∷ xs) (suc s) n j =
       let p = none_parts (eqb (key y) (key x)) x (seek key (key y) xs) n in
       ap (λ o. cond (eqb j (key x)) (Some x) o) (seek_inserted y xs s p.1 j)
-      ∙ swap (eqb j (key x)) (eqb j (key y)) (Some x) (Some y) (seek key j xs) (apart j (key y) (key x) p.0)
+      ∙ moved j (key y) (key x) (Some x) (Some y) (seek key j xs) p.0
 
   -- after a removal
   pub seek_removed : (k : ℕ) (xs : List X) (s : ℕ) → Sole key k xs s → (j : ℕ) → seek key j (remove xs s) ≡ cond (eqb j k) None (seek key j xs)
   seek_removed k [] s h j = absurd (omega (arith, h.lt))
-  seek_removed k (x ∷ xs) zero h j =
-      out_split (eqb j k) (eqb j (key x)) (Some x) (seek key j xs) None
-      (λ e. ap (λ i. seek key i xs) (eqb-true j k e) ∙ not_tail key k x xs h)
-      (alike j k (key x) (h.at x))
+  seek_removed k (x ∷ xs) zero h j = gone j k (key x) (Some x) None (seek key j xs) (h.at x) (λ e. ap (λ i. seek key i xs) e ∙ not_tail key k x xs h)
   seek_removed k (x ∷ xs) (suc s) h j =
       ap (λ o. cond (eqb j (key x)) (Some x) o) (seek_removed k xs s (later key k x xs s h) j)
-      ∙ swap (eqb j (key x)) (eqb j k) (Some x) None (seek key j xs) (apart j k (key x) (not_head key k x xs s h))
+      ∙ moved j k (key x) (Some x) None (seek key j xs) (not_head key k x xs s h)
 
   -- after a record is replaced
   pub seek_set : (y : X) (xs : List X) (s : ℕ) → Sole key (key y) xs s → (j : ℕ) → seek key j (set xs s y) ≡ cond (eqb j (key y)) (Some y) (seek key j xs)
   seek_set y [] s h j = absurd (omega (arith, h.lt))
-  seek_set y (x ∷ xs) zero h j = over_split (eqb j (key y)) (eqb j (key x)) (Some y) (Some x) (seek key j xs) (alike j (key y) (key x) (h.at x))
+  seek_set y (x ∷ xs) zero h j = over j (key y) (key x) (Some x) (Some y) (seek key j xs) (h.at x)
   seek_set y (x ∷ xs) (suc s) h j =
       ap (λ o. cond (eqb j (key x)) (Some x) o) (seek_set y xs s (later key (key y) x xs s h) j)
-      ∙ swap (eqb j (key x)) (eqb j (key y)) (Some x) (Some y) (seek key j xs) (apart j (key y) (key x) (not_head key (key y) x xs s h))
+      ∙ moved j (key y) (key x) (Some x) (Some y) (seek key j xs) (not_head key (key y) x xs s h)

@@ -1,20 +1,15 @@
 -- Records stay in the order of their keys, and what each edit makes of them. Assumes nothing.
-use Rattle.std.proofs.Common.{◌≡◌, ℕ, suc, ◌+◌, ◌-◌, ◌<◌, ◌≤◌, cond, ltb, List, [], ◌∷◌, length, get_or, set, is_some, Some, None, Option, sym, ap, ◌∙◌, ⊎_elim, arith}
+use Rattle.std.proofs.Common.{◌≡◌, ℕ, ◌+◌, ◌-◌, ◌<◌, ◌≤◌, cond, ltb, List, length, get_or, set, is_some, Some, None, Option, sym, ap, ◌∙◌, arith}
 use Rattle.std.specs.List.{insert, remove}
 use Rattle.std.proofs.lemmas.List.Edits.{length-insert, get_or-insert_below, get_or-insert_at, get_or-insert_above, length-remove, get_or-remove_below, get_or-remove_above}
 use Rattle.std.proofs.lemmas.List.{get_or-set_same, get_or-set_other, length-set}
-use Rattle.std.proofs.lemmas.Bool.{cases_lt, cases_order, cases_eq, lt-ltb, le-ltb}
+use Rattle.std.proofs.lemmas.Bool.{lt-ltb}
 use Rattle.register.specs.declared.RegisterFault.{RegisterFault}
 use Rattle.register.specs.declared.RegisterFault.TheVariants.{Taken, Full}
-use Rattle.register.specs.Order.{spot, seek, Rising, refusal}
+use Rattle.register.specs.Rising.{Rising}
+use Rattle.register.specs.Order.{spot, seek, refusal}
 use Rattle.register.proofs.Places.{spot_within, spot_below, spot_from}
-use Rattle.register.proofs.Lookups.{seek_none, seek_some}
-
-pub rising_none : {X : Type 0} (key : X → ℕ) → Rising key []
-rising_none key i j d (h, l) = absurd (omega arith)
-
-pub rising_tail : {X : Type 0} (key : X → ℕ) (x : X) (xs : List X) → Rising key (x ∷ xs) → Rising key xs
-rising_tail key x xs rise i j d (h, l) = rise (suc i) (suc j) d (omega arith, omega arith)
+use Rattle.register.proofs.Lookups.{seek_none}
 
 module _ {X : Type 0} (key : X → ℕ) (xs : List X) (x : X) (rise : Rising key xs) (new : seek key (key x) xs ≡ None) where
   abbrev s : ℕ
@@ -38,54 +33,24 @@ module _ {X : Type 0} (key : X → ℕ) (xs : List X) (x : X) (rise : Rising key
   pub rising_inserted : Rising key (insert xs s x)
   rising_inserted i j d (h, l) =
       let n = length-insert xs s x le in
-      let l0 : s ≤ length xs = le in
-      ⊎_elim
-      (λ (e : j ≡ s). omega (arith, in_at j d e, in_below i d (omega arith), spot_below key (key x) xs i d (omega arith)))
-      (⊎_elim
-      (λ (m : j < s). omega (arith, in_below j d m, in_below i d (omega arith), rise i j d (h, omega arith)))
-      (λ (m : s < j).
-      ⊎_elim
-      (λ (e : i ≡ s). omega (arith, in_at i d e, in_above j d m, high (j - 1) d (omega arith) (omega arith)))
-      (⊎_elim
-      (λ (k : i < s). omega (arith, in_below i d k, in_above j d m, rise i (j - 1) d (omega arith, omega arith)))
-      (λ (k : s < i). omega (arith, in_above i d k, in_above j d m, rise (i - 1) (j - 1) d (omega arith, omega arith))))
-      (cases_order i s)))
-      (cases_order j s)
+      let up = λ (a b : ℕ) (m : a < b) (t : b < length xs). rise a b d (m, t) in
+      grind (arith, le, in_below i d, in_at i d, in_above i d, in_below j d, in_at j d, in_above j d, up i j, up i (j - 1), up (i - 1) (j - 1), spot_below key (key x) xs i d, high (j - 1) d)
 
 pub rising_removed : {X : Type 0} (key : X → ℕ) (xs : List X) (g : ℕ) → g < length xs → Rising key xs → Rising key (remove xs g)
 rising_removed key xs g lt rise i j d (h, l) =
     let n = length-remove xs g lt in
     let below = λ (a : ℕ) (m : a < g). ap key (get_or-remove_below xs g d a m lt) in
     let above = λ (a : ℕ) (m : g ≤ a). ap key (get_or-remove_above xs g d a m lt) in
-    ⊎_elim
-    (λ (m : j < g). omega (arith, below i (omega arith), below j m, rise i j d (h, omega arith)))
-    (λ (m : g ≤ j).
-    ⊎_elim
-    (λ (k : i < g). omega (arith, below i k, above j m, rise i (j + 1) d (omega arith, omega arith)))
-    (λ (k : g ≤ i). omega (arith, above i k, above j m, rise (i + 1) (j + 1) d (omega arith, omega arith)))
-    (cases_lt i g))
-    (cases_lt j g)
+    let up = λ (a b : ℕ) (m : a < b) (t : b < length xs). rise a b d (m, t) in
+    grind (arith, below i, above i, below j, above j, up i j, up i (j + 1), up (i + 1) (j + 1))
 
 pub rising_set : {X : Type 0} (key : X → ℕ) (xs : List X) (x : X) (g : ℕ) → g < length xs → ((d : X) → key (get_or xs g d) ≡ key x) → Rising key xs → Rising key (set xs g x)
 rising_set key xs x g lt at rise i j d (h, l) =
     let n = length-set xs g x in
-    let same : (a : ℕ) → key (get_or (set xs g x) a d) ≡ key (get_or xs a d) =
-    λ a. ⊎_elim
-    (λ (e : a ≡ g). ap (λ b. key (get_or (set xs g x) b d)) e ∙ ap key (get_or-set_same xs g x d lt) ∙ sym (at d) ∙ ap (λ b. key (get_or xs b d)) (sym e))
-    (λ ne. ap key (get_or-set_other xs g a x d ne))
-    (cases_eq a g) in
-    omega (arith, same i, same j, rise i j d (h, omega arith))
-
--- how many records an edit at the spot of a key leaves
-module _ {X : Type 0} (key : X → ℕ) (k : ℕ) (xs : List X) where
-  pub spot_inserted_length : (x : X) → length (insert xs (spot key k xs) x) ≡ length xs + 1
-  spot_inserted_length x = length-insert xs (spot key k xs) x (spot_within key k xs)
-
-  pub spot_removed_length : Rising key xs → (y : X) → seek key k xs ≡ Some y → length (remove xs (spot key k xs)) + 1 ≡ length xs
-  spot_removed_length rise y e = length-remove xs (spot key k xs) (seek_some key k xs rise y e).0
-
-  pub spot_set_length : (x : X) → length (set xs (spot key k xs) x) ≡ length xs
-  spot_set_length x = length-set xs (spot key k xs) x
+    let here = λ (a : ℕ) (e : a ≡ g). ap (λ b. key (get_or (set xs g x) b d)) e ∙ ap key (get_or-set_same xs g x d lt) ∙ sym (at d) ∙ ap (λ b. key (get_or xs b d)) (sym e) in
+    let there = λ (a : ℕ) (e : a ≡ g → ⊥). ap key (get_or-set_other xs g a x d e) in
+    let up = λ (a b : ℕ) (m : a < b) (t : b < length xs). rise a b d (m, t) in
+    grind (arith, here i, there i, here j, there j, up i j)
 
 -- why an insertion is refused, or that it is not
 module _ {X : Type 0} (key : X → ℕ) (cap : ℕ) (xs : List X) (x : X) where
@@ -94,9 +59,6 @@ module _ {X : Type 0} (key : X → ℕ) (cap : ℕ) (xs : List X) (x : X) where
 
   pub refused_taken : (y : X) → seek key (key x) xs ≡ Some y → refusal key cap xs x ≡ Some Taken
   refused_taken y e = ap answer e
-
-  pub refused_full : seek key (key x) xs ≡ None → cap ≤ length xs → refusal key cap xs x ≡ Some Full
-  refused_full e h = ap answer e ∙ ap (λ b. cond b None (Some Full)) (le-ltb (length xs) cap h)
 
   pub not_refused : seek key (key x) xs ≡ None → length xs < cap → refusal key cap xs x ≡ None
   not_refused e h = ap answer e ∙ ap (λ b. cond b None (Some Full)) (lt-ltb (length xs) cap h)

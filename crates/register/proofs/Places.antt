@@ -1,9 +1,12 @@
 -- Where a key stands in a rising list. Assumes nothing.
-use Rattle.std.proofs.Common.{◌≡◌, ℕ, zero, suc, ◌+◌, ◌<◌, ◌≤◌, Bool, true, false, cond, eqb, leb, List, [], ◌∷◌, length, get_or, Some, None, sym, refl, ap, ◌∙◌, ⊎_elim, arith}
-use Rattle.std.proofs.lemmas.Bool.{cases_lt, cases_order, ne_eqb, leb-true, leb-false, cond-false}
-use Rattle.std.proofs.lemmas.List.{get_or_default}
+use Rattle.std.proofs.Common.{◌≡◌, ℕ, zero, suc, ◌<◌, ◌≤◌, Bool, true, false, cond, eqb, leb, ltb, List, [], ◌∷◌, length, get_or, Some, None, Result, Ok, Err, sym, refl, ap, ◌∙◌, ⊎_elim, arith}
+use Rattle.std.specs.List.Sorted.{IsBinarySearchResult, IsPartitionPoint, IsPartitionedBy, IsSearchInRange}
+use Rattle.std.specs.Ordering.{nat_cmp}
+use Rattle.std.proofs.lemmas.Cmp.{ranked}
+use Rattle.std.proofs.lemmas.Bool.{ltb-true, ltb-false, cases_lt, ne_eqb, leb-true, leb-false, cond-false}
 use Rattle.std.proofs.lemmas.Bool.Decides.{nat_tests}
-use Rattle.register.specs.Order.{first, spot, seek, Rising}
+use Rattle.register.specs.Rising.{Rising}
+use Rattle.register.specs.Order.{first, spot, seek, Located}
 
 -- the first that passes
 pub first_within : {X : Type 0} (p : X → Bool) (xs : List X) → first p xs ≤ length xs
@@ -31,6 +34,10 @@ pub first_passes : {X : Type 0} (p : X → Bool) (xs : List X) (d : X) → first
 first_passes p [] d h = absurd (omega arith)
 first_passes p (x ∷ xs) d h = pass_split p x xs d (first p xs) (p x) refl (first_passes p xs d) h
 
+-- no key is above one after it
+rises : {X : Type 0} (key : X → ℕ) (xs : List X) → Rising key xs → (i j : ℕ) (d : X) → i ≤ j → j < length xs → key (get_or xs i d) ≤ key (get_or xs j d)
+rises key xs rise i j d h l = grind (arith, rise i j d, λ (e : i ≡ j). ap (λ a. key (get_or xs a d)) e)
+
 -- the spot of a key splits the list
 module _ {X : Type 0} (key : X → ℕ) (k : ℕ) (xs : List X) where
   pub spot_within : spot key k xs ≤ length xs
@@ -47,26 +54,19 @@ module _ {X : Type 0} (key : X → ℕ) (k : ℕ) (xs : List X) where
     spot_above i d h l = omega (arith, spot_at d (omega arith), rise (spot key k xs) i d (h, l))
 
     pub spot_from : (i : ℕ) (d : X) → spot key k xs ≤ i → i < length xs → k ≤ key (get_or xs i d)
-    spot_from i d h l =
-        let a = spot_at d (omega arith) in
-        ⊎_elim
-        (λ (e : i ≡ spot key k xs). let w : key (get_or xs i d) ≡ key (get_or xs (spot key k xs) d) = ap (λ j. key (get_or xs j d)) e in omega arith)
-        (⊎_elim (λ m. absurd (omega arith)) (λ m. omega (arith, spot_above i d m l)))
-        (cases_order i (spot key k xs))
+    spot_from i d h l = omega (arith, spot_at d (omega arith), rises key xs rise (spot key k xs) i d h l)
 
-    -- a turn of the search
-    pub goes_up : (i : ℕ) (d : X) → i < length xs → key (get_or xs i d) < k → i + 1 ≤ spot key k xs
-    goes_up i d l h = ⊎_elim (λ (m : i < spot key k xs). omega arith) (λ (m : spot key k xs ≤ i). absurd (omega (arith, spot_from i d m l))) (cases_lt i (spot key k xs))
+  split_at : (i : ℕ) (d : X) → i ≤ length xs → ((j : ℕ) (d : X) → j < i → key (get_or xs j d) < k) → ((j : ℕ) (d : X) → i ≤ j → j < length xs → k ≤ key (get_or xs j d)) → i ≡ spot key k xs
+  split_at i d le low high = grind (arith, spot_within, spot_below i d, spot_at d, low (spot key k xs) d, high i d)
 
-  pub goes_down : (i : ℕ) (d : X) → k ≤ key (get_or xs i d) → spot key k xs ≤ i
-  goes_down i d h = ⊎_elim (λ (m : i < spot key k xs). absurd (omega (arith, spot_below i d m))) (λ m. m) (cases_lt i (spot key k xs))
+-- the rank that splits the keys below k from the others is the spot
+split_is_spot : {X : Type 0} (key : X → ℕ) (k : ℕ) (xs : List X) (i : ℕ) → i ≤ length xs → ((j : ℕ) (d : X) → j < i → key (get_or xs j d) < k) → ((j : ℕ) (d : X) → i ≤ j → j < length xs → k ≤ key (get_or xs j d)) → i ≡ spot key k xs
+split_is_spot key k [] i le low high = omega (arith, le)
+split_is_spot key k (x ∷ xs) i le low high = split_at key k (x ∷ xs) i x le low high
 
 -- a rank whose record has the key k is the spot of k
 pub spot_is : {X : Type 0} (key : X → ℕ) (k : ℕ) (xs : List X) → Rising key xs → (i : ℕ) (d : X) → i < length xs → key (get_or xs i d) ≡ k → i ≡ spot key k xs
-spot_is key k xs rise i d l e =
-    ⊎_elim (λ q. q)
-    (⊎_elim (λ m. absurd (omega (arith, spot_below key k xs i d m))) (λ m. absurd (omega (arith, spot_above key k xs rise i d m l))))
-    (cases_order i (spot key k xs))
+spot_is key k xs rise i d l e = grind (arith, spot_below key k xs i d, spot_above key k xs rise i d)
 
 -- a key that stands nowhere
 pub absent : {X : Type 0} (key : X → ℕ) (k : ℕ) (xs : List X) → ((i : ℕ) (d : X) → i < length xs → key (get_or xs i d) ≡ k → ⊥) → seek key k xs ≡ None
@@ -75,14 +75,28 @@ absent key k (x ∷ xs) n =
     cond-false (eqb k (key x)) (Some x) (seek key k xs) (ne_eqb k (key x) (λ e. n 0 x (omega arith) (sym e)))
     ∙ absent key k xs (λ i d l e. n (suc i) d (omega arith) e)
 
-module _ {X : Type 0} (key : X → ℕ) (k : ℕ) (xs : List X) (rise : Rising key xs) where
-  not_there : ((d : X) → spot key k xs < length xs → key (get_or xs (spot key k xs) d) ≡ k → ⊥) → seek key k xs ≡ None
-  not_there n = absent key k xs (λ i d l e. let s = spot_is key k xs rise i d l e in n d (omega arith) (ap (λ j. key (get_or xs j d)) (sym s) ∙ e))
+-- in a rising list no record whose key is below k comes after one whose key is not
+pub rising_parts : {X : Type 0} (key : X → ℕ) (k : ℕ) (xs : List X) → Rising key xs → IsPartitionedBy (λ x. ltb (key x) k) xs
+rising_parts key k xs rise i j d h l e = let w = rises key xs rise i j d h l in grind (arith, nat_tests)
 
-  -- k neither at its spot ..
-  pub not_at : (at : ℕ) (x : X) → at ≡ spot key k xs → (key (get_or xs at x) ≡ k → ⊥) → seek key k xs ≡ None
-  not_at at x e n = not_there (λ d l q. n (ap (λ j. key (get_or xs j x)) e ∙ ap key (get_or_default xs (spot key k xs) x d l) ∙ q))
+-- the rank where the library parts the keys below k from the others is the spot
+pub parted : {X : Type 0} (key : X → ℕ) (k : ℕ) (xs : List X) (i : ℕ) → i ≤ length xs → IsPartitionPoint (λ x. ltb (key x) k ≡ true) (λ x. ltb (key x) k ≡ false) xs i → i ≡ spot key k xs
+parted key k xs i l parts =
+    split_is_spot key k xs i l
+    (λ j d h. ltb-true (key (get_or xs j d)) k (parts.0 j d (omega arith) h))
+    (λ j d h m. ltb-false (key (get_or xs j d)) k (parts.1 j d h m))
 
-  -- .. nor, as all keys are below it, anywhere
-  pub not_past : length xs ≤ spot key k xs → seek key k xs ≡ None
-  not_past h = not_there (λ d l q. omega arith)
+-- what the library's binary search for k says of a rising list
+pub located : {X : Type 0} (key : X → ℕ) (k : ℕ) (xs : List X) → Rising key xs → (r : Result ℕ ℕ) → IsSearchInRange r (length xs) → IsBinarySearchResult (λ x. nat_cmp (key x) k) xs r → Located key k xs r
+located key k [] rise (Ok i) l h = absurd (omega arith)
+located key k (x ∷ xs) rise (Ok i) l h =
+    let at = λ (d : _). ranked _ k _ (sym (h d)) in
+    (l, at, spot_is key k (x ∷ xs) rise i x l (at x))
+located key k xs rise (Err i) l h =
+    let parts = h (λ a b d m n. let w = rises key xs rise a b d m n in grind (arith, nat_tests)) in
+    let low : (j : ℕ) (d : _) → j < i → key (get_or xs j d) < k = λ j d m. ranked _ k _ (sym (parts.0 j d (omega arith) m)) in
+    let high : (j : ℕ) (d : _) → i ≤ j → j < length xs → k < key (get_or xs j d) = λ j d m n. ranked _ k _ (sym (parts.1 j d m n)) in (
+      l,
+      split_is_spot key k xs i l low (λ j d m n. omega (arith, high j d m n)),
+      absent key k xs (λ j d n e. ⊎_elim (λ m. omega (arith, low j d m)) (λ m. omega (arith, high j d m n)) (cases_lt j i)),
+    )

@@ -19,15 +19,11 @@ module _ {X : Type 0} (key : X → ℕ) where
   seek k [] = None
   seek k (x ∷ xs) = cond (k == key x) (Some x) (seek k xs)
 
-  -- each key is above those before it
-  abbrev pub Rising : List X → Type 0
-  Rising xs = (i j : ℕ) (d : X) → (i < j) × (j < length xs) → key (slice_index_or xs i d) < key (slice_index_or xs j d)
-
   -- what a search for k says: the rank where k stands, or where it would stand
   abbrev pub Located : ℕ → List X → Result ℕ ℕ → Type 0
   Located k xs o = MatchResult o
-      (λ i. (i < length xs) × ((d : X) → key (slice_index_or xs i d) ≡ k) × (Rising xs → i ≡ spot k xs))
-      (λ i. (i ≤ length xs) × (Rising xs → (i ≡ spot k xs) × (seek k xs ≡ None)))
+      (λ i. (i < length xs) × ((d : X) → key (slice_index_or xs i d) ≡ k) × (i ≡ spot k xs))
+      (λ i. (i ≤ length xs) × (i ≡ spot k xs) × (seek k xs ≡ None))
 
   -- why the insertion of x is refused, where there is room for cap
   abbrev pub refusal : ℕ → List X → X → Option RegisterFault

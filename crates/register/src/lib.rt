@@ -2,7 +2,8 @@
 // This file has the types; `ops` has what a register does.
 #![tactic(auto)]
 
-ghost use Rattle.std.specs.Prelude.{◌≡◌, ℕ};
+ghost use Rattle.std.specs.Prelude.{◌≡◌, ◌≤◌, ℕ, length, take};
+ghost use Rattle.register.specs.Rising.{Rising};
 
 mod ops;
 
@@ -22,10 +23,12 @@ pub enum RegisterFault {
     Absent,
 }
 
-// The lent slots, of which the first `used` hold records.
-// What a register holds is defined whatever `used` is, so a struct with invariants can hold registers by value.
+// The lent slots, of which the first `used` hold records, each key above those before it.
+// It is a slice with a length beside it, since the caller lends the slots: a `Vec` would take memory of its own.
 #[derive(Drop)]
-pub struct Register<'a, R> {
+pub struct Register<'a, R: Record> {
     slots: &'a mut [R],
     used: usize,
+    ghost fits: { used ≤ length slots.now },
+    ghost rising: { Rising R.keyed (take used slots.now) },
 }

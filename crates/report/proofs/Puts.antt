@@ -1,17 +1,13 @@
 -- Bytes that are put into a buffer one after another. Assumes nothing.
-use Rattle.std.proofs.Common.{◌≡◌, ℕ, ◌+◌, ◌^◌, ◌<◌, ◌≤◌, List, [], ◌++◌, length, take, drop, ℤ, sym, ap, ◌∙◌, subst, append_assoc, add-zero, arith, length-append, drop-drop, w64, to_z, of_z}
-use lib.Signed.{mag}
-use Rattle.std.specs.Fmt.{signed_decimal}
-use Rattle.std.proofs.lemmas.List.{take-append-drop, length_push, length-take-le, take_at, drop_at}
-use Rattle.std.proofs.lemmas.Int.{to_z-of_z}
-use Rattle.report.specs.Texts.{piece, Put}
-
--- nothing is put
-pub put_none : (text : List ℕ) (at : ℕ) → Put text at [] text at
-put_none text at = record { whole = sym (take-append-drop at text) ∙ ap (λ k. take at text ++ drop k text) (sym (add-zero at)); place = sym (add-zero at) }
+use Rattle.std.proofs.Common.{◌≡◌, ℕ, ◌+◌, ◌<◌, ◌≤◌, List, [], ◌++◌, length, get_or, take, drop, sym, ap, ◌∙◌, subst, append_assoc, arith, length-append, length-drop, drop-drop}
+use Rattle.std.specs.List.{flat_map}
+use Rattle.std.proofs.lemmas.List.{length-take-le, take_at, drop_at, take_more, flat_map_more}
+use Rattle.std.proofs.lemmas.List.Folds.{length-flat_map-take}
+use Rattle.report.specs.declared.page.Page.{Page}
+use Rattle.report.specs.Texts.{Put, Written}
 
 -- bytes put after others are as if all had been put at once
-pub put_more : {text a mid b last : List ℕ} {at next past : ℕ} → at ≤ length text → Put text at a mid next → Put mid next b last past → Put text at (a ++ b) last past
+put_more : {text a mid b last : List ℕ} {at next past : ℕ} → at ≤ length text → Put text at a mid next → Put mid next b last past → Put text at (a ++ b) last past
 put_more {text} {a} {mid} {b} {last} {at} {next} {past} h p q =
     let rest = drop (at + length a) text in
     let split : mid ≡ (take at text ++ a) ++ rest = p.whole ∙ sym (append_assoc (take at text) a rest) in
@@ -25,18 +21,28 @@ put_more {text} {a} {mid} {b} {last} {at} {next} {past} h p q =
       place = q.place ∙ ap (λ k. k + length b) p.place ∙ sum;
     }
 
--- a number that is passed on is the number that it came from
-pub passed : {z y : ℤ} → mag z < 2 ^ 63 → z ≡ y → to_z w64 (of_z w64 z) ≡ y
-passed {z} {y} h e = to_z-of_z w64 z (record { sfits = h }) ∙ e
+-- bytes written after others are as if all had been written at once
+pub written_more : {page mid last : Page} {a b : List ℕ} → page.at ≤ length page.text.now → Written page a mid → Written mid b last → Written page (a ++ b) last
+written_more h p q = record { put = put_more h p.put q.put; same = q.same ∙ p.same }
 
--- so is the length of its spelling
-pub passed_width : {z y : ℤ} → mag z < 2 ^ 63 → z ≡ y → length (signed_decimal (to_z w64 (of_z w64 z))) ≡ length (signed_decimal y)
-passed_width h e = ap (λ x. length (signed_decimal x)) (passed h e)
+-- after what is written, there is room for what fits with it
+pub written_room : {page mid : Page} {a : List ℕ} (b : List ℕ) → page.at + length (a ++ b) ≤ length page.text.now → Written page a mid → mid.at + length b ≤ length mid.text.now
+written_room {page} {a = a} b h p =
+    let both = length-append a b in
+    let low : page.at ≤ length page.text.now = omega arith in
+    omega (arith, both, length-take-le page.at page.text.now low, p.put.place, simp (length-append, length-drop) at (ap length p.put.whole))
 
--- and that of its spelling with a byte after it
-pub passed_length : {z y : ℤ} (end : ℕ) → mag z < 2 ^ 63 → z ≡ y → length (piece (to_z w64 (of_z w64 z)) end) ≡ length (signed_decimal y) + 1
-passed_length {z} {y} end h e = ap (λ x. length (piece x end)) (passed h e) ∙ length_push (signed_decimal y) end
+-- the texts of some values are written one after another
+module _ {X : Type 0} (f : X → List ℕ) (xs : List X) (i : ℕ) (d : X) (inside : i < length xs) {page mid : Page} where
+  -- after those of the first values, there is room for the next one's
+  pub turn_room : page.at + length (flat_map f xs) ≤ length page.text.now → Written page (flat_map f (take i xs)) mid → mid.at + length (f (get_or xs i d)) ≤ length mid.text.now
+  turn_room all p =
+      let next = f (get_or xs i d) in
+      let fits : page.at + length (flat_map f (take i xs) ++ next) ≤ length page.text.now = omega (arith, length-flat_map-take f xs i d inside, length-append (flat_map f (take i xs)) next) in
+      written_room next fits p
 
--- and what is put of it
-pub put_passed : {text last : List ℕ} {at next : ℕ} {z y : ℤ} (end : ℕ) → mag z < 2 ^ 63 → z ≡ y → Put text at (piece (to_z w64 (of_z w64 z)) end) last next → Put text at (piece y end) last next
-put_passed {text} {last} {at} {next} end h e p = subst (λ x. Put text at (piece x end) last next) (passed h e) p
+  -- and that is written after them
+  pub turn : {last : Page} → page.at ≤ length page.text.now → Written page (flat_map f (take i xs)) mid → Written mid (f (get_or xs i d)) last → Written page (flat_map f (take (i + 1) xs)) last
+  turn {last} h p q =
+      let one = flat_map_more f [] (take i xs) (get_or xs i d) ∙ ap (flat_map f) (sym (take_more xs i d inside)) in
+      subst (λ ds. Written page ds last) one (written_more h p q)

@@ -1,35 +1,38 @@
--- Lines one after another, up to a place and from it on. Assumes nothing.
-use Rattle.std.proofs.Common.{◌≡◌, ℕ, ◌+◌, ◌<◌, ◌≤◌, List, [], ◌∷◌, ◌++◌, length, get_or, take, drop, ℤ, pos, sym, refl, ap, ◌∙◌, append_assoc, arith, length-append}
+-- The text and the length of a line, and the length of a report. Assumes nothing.
+use Rattle.std.proofs.Common.{◌≡◌, ℕ, ◌+◌, ◌*◌, ◌≤◌, min, List, [], ◌∷◌, length, ℤ, pos, arith, append_assoc, length-append}
+use Rattle.std.specs.List.{flat_map, sum_by}
+use Rattle.std.proofs.lemmas.List.{append-nil}
+use Rattle.std.proofs.lemmas.List.Sums.{sum_by-cons}
 use Rattle.std.specs.Fmt.{signed_decimal}
-use Rattle.std.proofs.lemmas.List.{take-append-drop, take_more, flat_map_more}
 use Rattle.settlement.specs.declared.Line.{Line}
-use Rattle.report.specs.Texts.{heading, sum_label, row_text, rows_text, report_text}
+use Rattle.report.specs.Texts.{piece, heading, sum_label, row_text, rows_text, report_text}
 
--- a line of zeros, which stands for one past the end
-abbrev pub no_line : Line
-no_line = record { day = 0; interval = 0; days = 0; baseline = pos 0; metered = 0; reduction = pos 0 }
+-- the numbers of a line, each with the byte that ends it
+abbrev pub columns : Line → List (ℤ × ℕ)
+columns line = (pos line.day, 32) ∷ (pos line.interval, 32) ∷ (pos line.days, 32) ∷ (line.baseline, 32) ∷ (pos line.metered, 32) ∷ (line.reduction, 10) ∷ []
 
-pub rows_append : (xs ys : List Line) → rows_text (xs ++ ys) ≡ rows_text xs ++ rows_text ys
-rows_append [] ys = refl
-rows_append (x ∷ xs) ys = ap (λ ds. row_text x ++ ds) (rows_append xs ys) ∙ sym (append_assoc (row_text x) (rows_text xs) (rows_text ys))
+-- the bytes of a number and of what ends it, and how many these are
+abbrev pub bytes : ℤ × ℕ → List ℕ
+bytes p = piece p.0 p.1
 
--- one more line
-pub rows_more : (lines : List Line) (i : ℕ) (d : Line) → i < length lines → rows_text (take (i + 1) lines) ≡ rows_text (take i lines) ++ row_text (get_or lines i d)
-rows_more lines i d h = ap rows_text (take_more lines i d h) ∙ sym (flat_map_more row_text [] (take i lines) (get_or lines i d))
+abbrev pub room : ℤ × ℕ → ℕ
+room p = length (signed_decimal p.0) + 1
 
--- a line and those before it are a part of all
-pub rows_within : (lines : List Line) (i : ℕ) (d : Line) → i < length lines → length (rows_text (take i lines)) + length (row_text (get_or lines i d)) ≤ length (rows_text lines)
-rows_within lines i d h =
-    let e = ap (λ ls. length (rows_text ls)) (sym (take-append-drop (i + 1) lines)) ∙ ap length (rows_append (take (i + 1) lines) (drop (i + 1) lines)) in
-    let m = ap length (rows_more lines i d h) in
-    omega (arith, simp length-append at e, simp length-append at m)
-
--- the length of a line is that of its numbers, with a byte after each
-pub row_length : (line : Line) → length (row_text line) ≡ (length (signed_decimal (pos line.day)) + 1) + (length (signed_decimal (pos line.interval)) + 1) + (length (signed_decimal (pos line.days)) + 1) + (length (signed_decimal line.baseline) + 1) + (length (signed_decimal (pos line.metered)) + 1) + (length (signed_decimal line.reduction) + 1)
+-- a line is the bytes of its numbers
+pub row_bytes : (line : Line) → flat_map bytes (columns line) ≡ row_text line
 unfolding row_text
-row_length line = simp length-append refl
+row_bytes line = simp (append_assoc, append-nil)
+
+pub row_length : (line : Line) → sum_by room (columns line) ≡ length (row_text line)
+unfolding row_text
+row_length line = simp length-append (omega arith)
 
 -- the length of the text is that of its parts
-pub report_length : (lines : List Line) (sum : ℤ) → length (report_text lines sum) ≡ 49 + length (rows_text lines) + (length (signed_decimal sum) + 1)
+pub report_length : (lines : List Line) (sum : ℤ) → length (report_text lines sum) ≡ 49 + (length (signed_decimal sum) + 1) + length (rows_text lines)
 unfolding heading sum_label
 report_length lines sum = simp length-append (omega arith)
+
+-- a sum of numbers that are at most m
+pub capped : {X : Type 0} (f : X → ℕ) (m : ℕ) (xs : List X) → sum_by (λ x. min (f x) m) xs ≤ m * length xs
+capped f m [] = omega arith
+capped f m (x ∷ xs) = omega (arith, sum_by-cons (λ y. min (f y) m) x xs, capped f m xs)

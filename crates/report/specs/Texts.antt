@@ -4,6 +4,7 @@ use Rattle.std.specs.List.{flat_map}
 use Rattle.std.specs.Fmt.{signed_decimal}
 use Rattle.refusal.specs.Refusals.{Refusal, plain}
 use Rattle.settlement.specs.declared.Line.{Line}
+use Rattle.report.specs.declared.page.Page.{Page}
 use Rattle.report.specs.declared.ReportFault.{ReportFault}
 use Rattle.report.specs.declared.ReportFault.TheVariants.{ShortBuffer}
 
@@ -45,6 +46,11 @@ most_bytes n = 70 + 126 * n
 pub record Put (before : List ℕ) (at : ℕ) (bytes after : List ℕ) (next : ℕ) : Type 0 where
   pub whole : after ≡ take at before ++ (bytes ++ drop (at + length bytes) before)
   pub place : next ≡ at + length bytes
+
+-- bytes are put on a page after those that are there, and the page is still one of the same buffer
+pub record Written (before : Page) (bytes : List ℕ) (after : Page) : Type 0 where
+  pub put : Put before.text.now before.at bytes after.text.now after.at
+  pub same : after.text.ghost_name ≡ before.text.ghost_name
 
 -- a text that fits stands at the start of the buffer, with the rest as it was and its length for an answer;
 -- for one that does not fit the buffer stays as it was

@@ -8,7 +8,7 @@ use Rattle.register.specs.Order.{spot}
 use Rattle.register.proofs.Lookups.{seek_key, seek_some}
 use Rattle.marks.specs.declared.Event.{Event}
 use Rattle.marks.specs.Keys.{event_key}
-use Rattle.marks.specs.Marked.{day_in, well_placed, in_book}
+use Rattle.marks.specs.Events.{day_in, well_placed, in_book}
 use Rattle.settlement.specs.declared.Book.{Book}
 use Rattle.settlement.specs.Books.{book_marking}
 use Rattle.settlement.specs.Settles.{event_in}
@@ -28,8 +28,8 @@ few FiveMinutes f n h = grind (arith, nat_tests)
 module _ (b : Book) (first : ℕ) (e : Event) (stands : event_in (book_marking b) first ≡ Some e) where
   stood : in_book b.marks.resolution b.marks.days e ≡ true
   stood =
-      let at = seek_some event_key first (held b.marks.events) b.events_rise e stands in
-      subst (λ (v : Event). in_book b.marks.resolution b.marks.days v ≡ true) (at.1 e) (b.placed (spot event_key first (held b.marks.events)) e at.0)
+      let at = seek_some event_key first (held b.marks.events) b.marks.events.rising e stands in
+      subst (λ (v : Event). in_book b.marks.resolution b.marks.days v ≡ true) (at.1 e) (b.marks.placed (spot event_key first (held b.marks.events)) e at.0)
 
   pub on_a_day : day_in b.marks.resolution first < b.marks.days
   on_a_day =

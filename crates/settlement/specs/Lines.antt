@@ -1,10 +1,9 @@
 -- What the lines of a settled event hold, over readings alone. Assumes nothing.
 use Rattle.std.specs.Prelude.{ℕ, ◌+◌, ◌*◌, ◌≤◌, List, [], ◌∷◌, ◌++◌, map, length, ℤ, pos, ◌+ℤ◌, ◌-ℤ◌, fold, sum_by, Option}
 use Rattle.std.specs.List.{range_with_len, flat_map}
-use Rattle.store.specs.Meaning.{Readings}
 use Rattle.method.specs.Energy.{Sound}
 use Rattle.metering.specs.Sums.{first_in}
-use Rattle.metering.specs.Energy.{energy_at, trouble_at, places}
+use Rattle.metering.specs.Energy.{Meters, energy_at, trouble_at, places}
 use Rattle.metering.specs.declared.SourceFault.{SourceFault}
 use Rattle.settlement.specs.declared.Line.{Line}
 
@@ -31,14 +30,14 @@ day_sources x d = places x.intervals d x.window x.width ++ places x.intervals d 
 abbrev pub sources : Terms → List ℕ
 sources x = flat_map (day_sources x) (x.days ++ (x.day ∷ []))
 
-module _ (at : Readings) (u c : ℕ) where
+module _ (m : Meters) where
   -- the first trouble with a source
   abbrev pub trouble : Terms → Option SourceFault
-  trouble x = first_in (trouble_at at u c) (sources x)
+  trouble x = first_in (trouble_at m) (sources x)
 
   -- the unit's energy over a stretch of a day, and over that stretch on every selected day
   abbrev pub used : Terms → ℕ → ℕ → ℕ → ℕ
-  used x from long d = sum_by (energy_at at u c) (places x.intervals d from long)
+  used x from long d = sum_by (energy_at m) (places x.intervals d from long)
 
   abbrev pub used_before : Terms → ℕ → ℕ → ℕ
   used_before x from long = sum_by (used x from long) x.days
@@ -54,7 +53,7 @@ module _ (at : Readings) (u c : ℕ) where
   a_of x = used x x.window x.width x.day
 
   abbrev pub metered : Terms → ℕ → ℕ
-  metered x i = energy_at at u c (x.day * x.intervals + i)
+  metered x i = energy_at m (x.day * x.intervals + i)
 
   -- the energies of a line are within their limits
   pub record Usable (x : Terms) (i : ℕ) : Type 0 where

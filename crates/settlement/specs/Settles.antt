@@ -5,12 +5,13 @@ use Rattle.register.specs.Order.{seek}
 use Rattle.store.specs.Meaning.{Readings}
 use Rattle.marks.specs.declared.Event.{Event}
 use Rattle.marks.specs.Keys.{event_key}
-use Rattle.marks.specs.Marked.{Marking, day_in, kind_in, lead_of}
+use Rattle.marks.specs.Events.{day_in}
+use Rattle.marks.specs.Marked.{Marking, kind_in, lead_of}
 use Rattle.method.specs.Rules.{Rules}
 use Rattle.method.specs.Methods.{numbered_rules, known}
 use Rattle.choice.specs.Choice.{selected_days}
 use Rattle.metering.specs.Sums.{or_else}
-use Rattle.metering.specs.Energy.{unit_fits}
+use Rattle.metering.specs.Energy.{unit_fits, unit_meters}
 use Rattle.metering.specs.declared.SourceFault.{SourceFault}
 use Rattle.settlement.specs.declared.Line.{Line}
 use Rattle.settlement.specs.declared.Settlement.{Settlement}
@@ -70,11 +71,11 @@ settle_cause r b points at u c first room =
     or_else (unit_cause points u c)
     (or_else (plan_cause r b first)
     (or_else (cond (nat_le (terms r b first).count room) None (Some ShortList))
-    (source_cause (trouble at u c (terms r b first)))))
+    (source_cause (trouble (unit_meters at u c) (terms r b first)))))
 
 -- the lines of the event
 abbrev pub settled_lines : Rules → Marking → Readings → ℕ → ℕ → ℕ → List Line
-settled_lines r b at u c first = lines_of at u c r.baseline (terms r b first)
+settled_lines r b at u c first = lines_of (unit_meters at u c) r.baseline (terms r b first)
 
 -- what settling makes of a list of lines, with the answer o
 abbrev pub Settled : Rules → Marking → ℕ → Readings → ℕ → ℕ → ℕ → List Line → List Line → Result Settlement SettleFault → Type 0

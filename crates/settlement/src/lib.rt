@@ -3,12 +3,12 @@
 #![tactic(auto)]
 
 ghost use Rattle.std.specs.Prelude.{◌≡◌, ◌*◌, ◌≤◌, pos, neg_ℤ, ◌≤ℤ◌};
-ghost use Rattle.marks.specs.Marked.{DaysFit, HolidaysRise, ExclusionsRise, EventsRise, EventsPlaced, EventsApart};
-ghost use Rattle.settlement.specs.declared.SettleFault.TheVariants.{Source};
+ghost use Rattle.settlement.specs.declared.SettleFault.TheVariants.{Methodology, Source};
 ghost use Rattle.settlement.specs.Faults.{settle_refusal};
 
 use marks::Marks;
 use metering::SourceFault;
+use method::catalogue::MethodFault;
 use refusal::Refuse;
 
 mod marking;
@@ -17,16 +17,10 @@ mod settling;
 
 pub use settling::{settle, settle_numbered};
 
-// A book: its marks.
+// A book: its marks. It forwards their calls, since it lends them to be read and not to be changed.
 #[derive(Drop)]
 pub struct Book<'a> {
     marks: Marks<'a>,
-    ghost fit: { DaysFit marks },
-    ghost holidays_rise: { HolidaysRise marks },
-    ghost exclusions_rise: { ExclusionsRise marks },
-    ghost events_rise: { EventsRise marks },
-    ghost placed: { EventsPlaced marks },
-    ghost apart: { EventsApart marks },
 }
 
 // The points that are settled together: so many neighbours from the first on.
@@ -38,7 +32,7 @@ pub struct Points {
 
 // One interval of a settled event: its day and interval, the number of selected days, the baseline, the metered energy,
 // and the reduction, which is the baseline less the metered energy.
-#[derive(Clone, Copy, PartialEq, Eq, Debug)]
+#[derive(Clone, Copy, Default, PartialEq, Eq, Debug)]
 pub struct Line {
     pub day: u32,
     pub interval: u32,
@@ -88,9 +82,20 @@ impl From<SourceFault> for SettleFault {
     }
 }
 
+impl From<MethodFault> for SettleFault {
+    ghost from_gives = { λ e r. r ≡ Methodology };
+
+    fn from(fault: MethodFault) -> SettleFault {
+        match fault {
+            MethodFault::Unknown => SettleFault::Methodology,
+        }
+    }
+}
+
 impl Refuse for SettleFault {
     ghost refusal = { settle_refusal };
 
+    // Causes that carry values have no discriminant to stand for a number.
     fn number(&self) -> u8 {
         match self {
             SettleFault::Unit => 18,

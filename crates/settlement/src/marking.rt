@@ -1,18 +1,19 @@
 // What a book answers and does: its marks, kept in order.
 ghost use Rattle.std.specs.Prelude.{◌≡◌, length};
+ghost use Rattle.std.specs.Result.{result_err};
 ghost use Rattle.marks.specs.Marked.{marks_fault, marking, newly, kind_in, DayMarked, DayLifted, EventMarked, EventLifted};
-ghost use Rattle.marks.specs.Marked.{SameButHolidays, SameButExclusions, SameButEvents};
+ghost use Rattle.marks.specs.Marked.{days_marked, SameButDays, SameButEvents};
 ghost use Rattle.settlement.specs.Books.{book_marking};
 
 use crate::Book;
 use calendar::{DayKind, Resolution};
-use marks::{DayMark, Event, MarkFault, Marks};
+use marks::{DayMark, Event, MarkFault, MarkKind, Marks};
 use refusal::MakeFault;
 
 impl<'a> Book<'a> {
     // Whether a book may have so many intervals a day and so many days.
-    pub fn check(intervals: u32, days: u32) -> Option<MakeFault>
-        ensures { result ≡ marks_fault intervals days }
+    pub fn check(intervals: u32, days: u32) -> Result<(), MakeFault>
+        ensures { result_err result ≡ marks_fault intervals days }
     {
         Marks::check(intervals, days)
     }
@@ -58,18 +59,11 @@ impl<'a> Book<'a> {
         self.marks.kind_of_day(day)
     }
 
-    pub fn mark_holiday(&mut self, day: u16) -> Result<(), MarkFault>
-        ensures done { DayMarked (book_marking self.old).days (book_marking self.old).holidays (book_marking self.new).holidays day result }
-        ensures same { SameButHolidays (book_marking self.old) (book_marking self.new) }
+    pub fn mark_day(&mut self, kind: MarkKind, day: u16) -> Result<(), MarkFault>
+        ensures done { DayMarked (book_marking self.old).days (days_marked kind (book_marking self.old)) (days_marked kind (book_marking self.new)) day result }
+        ensures same { SameButDays kind (book_marking self.old) (book_marking self.new) }
     {
-        self.marks.mark_holiday(day)
-    }
-
-    pub fn mark_exclusion(&mut self, day: u16) -> Result<(), MarkFault>
-        ensures done { DayMarked (book_marking self.old).days (book_marking self.old).exclusions (book_marking self.new).exclusions day result }
-        ensures same { SameButExclusions (book_marking self.old) (book_marking self.new) }
-    {
-        self.marks.mark_exclusion(day)
+        self.marks.mark_day(kind, day)
     }
 
     pub fn mark_event(&mut self, first: u32, count: u32) -> Result<(), MarkFault>
@@ -79,18 +73,11 @@ impl<'a> Book<'a> {
         self.marks.mark_event(first, count)
     }
 
-    pub fn lift_holiday(&mut self, day: u16) -> Result<(), MarkFault>
-        ensures done { DayLifted (book_marking self.old).holidays (book_marking self.new).holidays day result }
-        ensures same { SameButHolidays (book_marking self.old) (book_marking self.new) }
+    pub fn lift_day(&mut self, kind: MarkKind, day: u16) -> Result<(), MarkFault>
+        ensures done { DayLifted (days_marked kind (book_marking self.old)) (days_marked kind (book_marking self.new)) day result }
+        ensures same { SameButDays kind (book_marking self.old) (book_marking self.new) }
     {
-        self.marks.lift_holiday(day)
-    }
-
-    pub fn lift_exclusion(&mut self, day: u16) -> Result<(), MarkFault>
-        ensures done { DayLifted (book_marking self.old).exclusions (book_marking self.new).exclusions day result }
-        ensures same { SameButExclusions (book_marking self.old) (book_marking self.new) }
-    {
-        self.marks.lift_exclusion(day)
+        self.marks.lift_day(kind, day)
     }
 
     pub fn lift_event(&mut self, first: u32) -> Result<(), MarkFault>

@@ -1,5 +1,6 @@
 // What a settlement works on once its event, its day and its selected days are known.
-ghost use Rattle.std.specs.Prelude.{◌<◌, ◌≤◌};
+ghost use Rattle.std.specs.Prelude.{◌<◌, ◌≤◌, length};
+ghost use Rattle.choice.specs.Choice.{days_of};
 
 use calendar::{Resolution, Stretch};
 use choice::Selected;
@@ -13,11 +14,6 @@ pub(crate) struct Plan {
     pub(crate) window: Stretch,
     pub(crate) event: Stretch,
     ghost within: { (event.first < 288) × (event.count ≤ 288) },
-}
-
-// The unit's energy in the window: over the selected days, and on the event's day.
-#[derive(Clone, Copy)]
-pub(crate) struct Adjustment {
-    pub(crate) past: u64,
-    pub(crate) present: u64,
+    ghost some_days: { 0 < length (days_of selected) },
+    ghost some_width: { 0 < window.count },
 }

@@ -1,9 +1,11 @@
 -- What an edit of the register makes of a sparse store. Assumes nothing.
-use Rattle.std.proofs.Common.{◌≡◌, ℕ, ◌+◌, ◌-◌, ◌<◌, ◌≤◌, Bool, true, false, cond, eqb, List, length, Some, None, Ok, Err, Option, Result, sym, refl, ◌∙◌, arith}
+use Rattle.std.proofs.Common.{◌≡◌, ℕ, ◌+◌, ◌-◌, ◌<◌, ◌≤◌, Bool, true, false, cond, eqb, List, length, Some, None, Ok, Err, Option, Result, is_ok, sym, refl, ◌∙◌, arith}
 use Rattle.std.proofs.lemmas.Bool.{eqb-true}
 use Rattle.std.proofs.lemmas.Bool.Decides.{nat_tests}
 use Rattle.register.specs.declared.RegisterFault.{RegisterFault}
-use Rattle.register.specs.Order.{seek, Finds}
+use Rattle.register.specs.Rising.{Rising}
+use Rattle.register.specs.Order.{seek, Removed, Finds, Counts}
+use Rattle.register.proofs.Lookups.{seek_some}
 use Rattle.store.specs.Meaning.{Changed, void_fault}
 use Rattle.sparse.specs.declared.PlacedReading.{PlacedReading}
 use Rattle.sparse.specs.Places.{place_of, one_point, Placed}
@@ -25,18 +27,21 @@ pub fitting : (span k e : ℕ) → k < span → e ≤ 5000 → Fitting span k (S
 fitting span k e h l r q = let z : e ≡ r.energy = cc in (h, omega arith)
 
 pub fitting_none : (span k : ℕ) → Fitting span k None
-fitting_none span k r q = let z : ◌≡◌ {A = ℕ} 0 1 = cc in absurd (omega arith)
+fitting_none span k r q = absurd cc
 
 -- a record is taken out
-pub voided : (span n n' : ℕ) (xs ys : List PlacedReading) (p q : ℕ) (old : PlacedReading) → p < 1 → q < span → seek place_of q xs ≡ Some old → ((j : ℕ) → seek place_of j ys ≡ cond (eqb j q) None (seek place_of j xs)) → length ys ≡ length xs - 1 → n' ≡ n → (0 < length xs) × (length xs ≤ n) → (void_fault (one_point span n xs) p q ≡ None) × Changed (one_point span n xs) (one_point span n' ys) p q None ((one_point span n xs).free p + 1)
-voided span n n' xs ys p q old h k there finds l same (some, most) = (
-  grind (arith, nat_tests),
-  record {
-    points = refl;
-    span = refl;
-    here = grind (arith, nat_tests, finds q);
-    elsewhere = λ i j d. grind (arith, nat_tests, finds j);
-    count = grind (arith, nat_tests);
-    others = λ i d. grind (arith, nat_tests);
-  },
-)
+pub voided : (span n n' : ℕ) (xs ys : List PlacedReading) (p q : ℕ) (o : Result PlacedReading RegisterFault) → is_ok o ≡ true → p < 1 → q < span → Rising place_of xs → length xs ≤ n → Removed place_of xs ys q o → Finds place_of q None xs ys o → Counts (length xs - 1) xs ys o → n' ≡ n → (void_fault (one_point span n xs) p q ≡ None) × Changed (one_point span n xs) (one_point span n' ys) p q None ((one_point span n xs).free p + 1)
+voided span n n' xs ys p q (Ok old) ok h k rise most done finds l same =
+    let there = done.0 in
+    let some : 0 < length xs = omega (arith, (seek_some place_of q xs rise old there).0) in (
+      grind (arith, nat_tests),
+      record {
+        points = refl;
+        span = refl;
+        here = grind (arith, nat_tests, finds q);
+        elsewhere = λ i j d. grind (arith, nat_tests, finds j);
+        count = grind (arith, nat_tests);
+        others = λ i d. grind (arith, nat_tests);
+      },
+    )
+voided span n n' xs ys p q (Err e) ok h k rise most done finds l same = absurd cc

@@ -16,7 +16,7 @@ sparse_meaning s = one_point s.span (capacity s.readings) (held s.readings)
 
 -- a reading that stands is up to 5,000 if its record is
 small_reading : (o : Option PlacedReading) (v : Reading) → ((r : PlacedReading) → o ≡ Some r → r.energy ≤ 5000) → reading_of o ≡ Some v → v.energy ≤ 5000
-small_reading None v f e = let z : ◌≡◌ {A = ℕ} 0 1 = cc in absurd (omega arith)
+small_reading None v f e = absurd cc
 small_reading (Some r) v f e = let z : r.energy ≡ v.energy = cc in omega (arith, f r refl)
 
 -- no reading stands where there is no record
@@ -30,7 +30,7 @@ one_point_sound span n xs wide placed = record {
   some = omega arith;
   most = omega arith;
   wide = wide;
-  small = λ p q v. cond_both (nat_lt p 1) (reading_of (seek place_of q xs)) None (λ o. o ≡ Some v → v.energy ≤ 5000) (λ t. small_reading (seek place_of q xs) v (λ r e. (placed q r e).1)) (λ n e. let z : ◌≡◌ {A = ℕ} 0 1 = cc in absurd (omega arith));
+  small = λ p q v. cond_both (nat_lt p 1) (reading_of (seek place_of q xs)) None (λ o. o ≡ Some v → v.energy ≤ 5000) (λ t. small_reading (seek place_of q xs) v (λ r e. (placed q r e).1)) (λ n e. absurd cc);
   past_points = λ p q h. cond-false (nat_lt p 1) (reading_of (seek place_of q xs)) None (le-ltb p 1 h);
   past_span = λ p q h. cond_both (nat_lt p 1) (reading_of (seek place_of q xs)) None (λ o. o ≡ None) (λ t. not_there (seek place_of q xs) (λ r e. omega (arith, (placed q r e).0))) (λ n. refl);
   past_free = λ p h. cond-false (nat_lt p 1) (n - length xs) 0 (le-ltb p 1 h);

@@ -33,13 +33,6 @@ one_point span n xs = record {
   free = λ p. cond (nat_lt p 1) (n - length xs) 0;
 }
 
--- m has one point and w places, with no reading, so that all of n slots are free
-pub record Empty (w n : ℕ) (m : Meaning) : Type 0 where
-  pub points : m.points ≡ 1
-  pub span : m.span ≡ w
-  pub none : (p q : ℕ) → m.at p q ≡ None
-  pub all : (p : ℕ) → m.free p ≡ cond (nat_lt p 1) n 0
-
 -- each record has a place before the span and a reading up to 5,000
 abbrev pub Placed : ℕ → List PlacedReading → Type 0
 Placed span xs = (q : ℕ) (r : PlacedReading) → seek place_of q xs ≡ Some r → (q < span) × (r.energy ≤ 5000)

@@ -4,7 +4,6 @@
 
 ghost use Rattle.std.specs.Prelude.{◌≤◌};
 ghost use Rattle.register.specs.Held.{held};
-ghost use Rattle.register.specs.Order.{Rising};
 ghost use Rattle.sparse.specs.Places.{place_of, Placed};
 
 use register::{Record, Register};
@@ -12,7 +11,7 @@ use register::{Record, Register};
 mod ops;
 
 // The energy of the interval at one place, in units of 0.1 kWh.
-#[derive(Clone, Copy, PartialEq, Eq, Debug)]
+#[derive(Clone, Copy, PartialEq, Eq, Debug, Default)]
 pub struct PlacedReading {
     pub place: u32,
     pub energy: u16,
@@ -32,6 +31,5 @@ pub struct Sparse<'a> {
     readings: Register<'a, PlacedReading>,
     span: u32,
     ghost wide: { span ≤ 1179648 },
-    ghost rising: { Rising place_of (held readings) },
     ghost placed: { Placed span (held readings) },
 }

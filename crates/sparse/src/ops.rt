@@ -1,39 +1,36 @@
 // What a sparse store does: every call finds its record by the register's binary search.
 ghost use Rattle.std.specs.Prelude.{◌≡◌, length};
-ghost use Rattle.sparse.specs.Places.{sparse_fault, made_span, Empty};
+ghost use Rattle.std.specs.Result.{result_err};
+ghost use Rattle.store.specs.Meaning.{Empty};
+ghost use Rattle.sparse.specs.Places.{sparse_fault, made_span};
 ghost use Rattle.sparse.specs.Meanings.{sparse_meaning, sparse_sound};
 
 use crate::{PlacedReading, Sparse};
 use refusal::MakeFault;
 use register::Register;
-use store::{Reading, Store, StoreFault};
-
-const MOST_SPAN: u32 = 1_179_648;
-
-const MOST_ENERGY: u16 = 5000;
+use store::{MOST_ENERGY, MOST_SPAN, Reading, Store, StoreFault};
 
 impl<'a> Sparse<'a> {
-    // Why a sparse store of `span` places is not made, if so; a list of any length will do.
-    pub fn check(span: u32) -> Option<MakeFault>
-        ensures { result ≡ sparse_fault span }
+    // Whether a sparse store of `span` places may be made; a list of any length will do.
+    pub fn check(span: u32) -> Result<(), MakeFault>
+        ensures { result_err result ≡ sparse_fault span }
     {
         if span <= MOST_SPAN {
-            None
+            Ok(())
         } else {
-            Some(MakeFault::Limits)
+            Err(MakeFault::Limits)
         }
     }
 
     // The store with no reading, every slot free. Where `check` finds a fault it has no place.
     pub fn new(span: u32, slots: &'a mut [PlacedReading]) -> Sparse<'a>
-        ensures empty { Empty (made_span span) (length slots.old) (sparse_meaning result) }
+        ensures empty { Empty 1 (made_span span) (length slots.old) (sparse_meaning result) }
         ensures untouched { result.readings.slots.now ≡ slots.old }
     {
         let readings = Register::new(slots);
-        if span <= MOST_SPAN {
-            Sparse { readings, span }
-        } else {
-            Sparse { readings, span: 0 }
+        match Self::check(span) {
+            Ok(()) => Sparse { readings, span },
+            Err(_) => Sparse { readings, span: 0 },
         }
     }
 }
@@ -62,12 +59,9 @@ impl<'a> Store for Sparse<'a> {
         if point >= 1 {
             return None;
         }
-        match self.readings.find(place) {
-            Some(record) => Some(Reading {
-                energy: record.energy,
-            }),
-            None => None,
-        }
+        self.readings.find(place).map(|record| Reading {
+            energy: record.energy,
+        })
     }
 
     fn enter(&mut self, point: u32, place: u32, reading: Reading) -> Result<(), StoreFault> {
@@ -84,19 +78,16 @@ impl<'a> Store for Sparse<'a> {
         if self.readings.replace(record).is_ok() {
             return Ok(());
         }
-        match self.readings.insert(record) {
-            Ok(()) => Ok(()),
-            Err(_) => Err(StoreFault::Full),
-        }
+        self.readings.insert(record).map_err(|_| StoreFault::Full)
     }
 
     fn void(&mut self, point: u32, place: u32) -> Result<(), StoreFault> {
         if point >= 1 || place >= self.span {
             return Err(StoreFault::Beyond);
         }
-        match self.readings.remove(place) {
-            Ok(_) => Ok(()),
-            Err(_) => Err(StoreFault::Nothing),
-        }
+        self.readings
+            .remove(place)
+            .map_err(|_| StoreFault::Nothing)?;
+        Ok(())
     }
 }

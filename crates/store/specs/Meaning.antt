@@ -32,6 +32,13 @@ pub record Sound (m : Meaning) : Type 0 where
   pub past_span : (p q : ℕ) → m.span ≤ q → m.at p q ≡ None
   pub past_free : (p : ℕ) → m.points ≤ p → m.free p ≡ 0
 
+-- m has n points and w places, with no reading, and f places free at each point
+pub record Empty (n w f : ℕ) (m : Meaning) : Type 0 where
+  pub points : m.points ≡ n
+  pub span : m.span ≡ w
+  pub none : (p q : ℕ) → m.at p q ≡ None
+  pub all : (p : ℕ) → m.free p ≡ cond (nat_lt p n) f 0
+
 abbrev pub inside : Meaning → ℕ → ℕ → Bool
 inside m p q = nat_lt p m.points && nat_lt q m.span
 

@@ -1,5 +1,6 @@
 // A clock serves a meter that runs k intervals ahead: its place p is place p + k of the store below.
-ghost use Rattle.std.specs.Prelude.{◌≡◌};
+ghost use Rattle.std.specs.Prelude.{◌≡◌, ◌+◌, cond, Some, None, nat_lt};
+ghost use Rattle.std.specs.Result.{result_err};
 ghost use Rattle.store.specs.Shifts.{shifted, shifted_sound, clock_fault, ahead_of};
 
 use crate::{Reading, Store, StoreFault};
@@ -15,13 +16,13 @@ pub struct Clock<S> {
 
 impl<S: Store> Clock<S> {
     // Whether a clock may run so far ahead.
-    pub fn check(ahead: u32) -> Option<MakeFault>
-        ensures { result ≡ clock_fault ahead }
+    pub fn check(ahead: u32) -> Result<(), MakeFault>
+        ensures { result_err result ≡ clock_fault ahead }
     {
         if ahead <= MOST_AHEAD {
-            None
+            Ok(())
         } else {
-            Some(MakeFault::Limits)
+            Err(MakeFault::Limits)
         }
     }
 
@@ -30,11 +31,18 @@ impl<S: Store> Clock<S> {
         ensures below { result.below ≡ below }
         ensures ahead { result.ahead ≡ ahead_of ahead }
     {
-        if ahead <= MOST_AHEAD {
-            Clock { below, ahead }
-        } else {
-            Clock { below, ahead: 0 }
+        match Self::check(ahead) {
+            Ok(()) => Clock { below, ahead },
+            Err(_) => Clock { below, ahead: 0 },
         }
+    }
+
+    // The place below, or none beyond the span.
+    fn place_below(&self, place: u32) -> Option<u32>
+        ensures { let k = place + self.now.ahead in result ≡ cond (nat_lt k (S.meaning self.now.below).span) (Some k) None }
+    {
+        let below = place.checked_add(self.ahead)?;
+        (below < self.below.span()).then_some(below)
     }
 }
 
@@ -56,29 +64,17 @@ impl<S: Store> Store for Clock<S> {
     }
 
     fn read(&self, point: u32, place: u32) -> Option<Reading> {
-        let span = self.below.span();
-        if place < span.saturating_sub(self.ahead) {
-            self.below.read(point, place + self.ahead)
-        } else {
-            None
-        }
+        let below = self.place_below(place)?;
+        self.below.read(point, below)
     }
 
     fn enter(&mut self, point: u32, place: u32, reading: Reading) -> Result<(), StoreFault> {
-        let span = self.below.span();
-        if place < span.saturating_sub(self.ahead) {
-            self.below.enter(point, place + self.ahead, reading)
-        } else {
-            Err(StoreFault::Beyond)
-        }
+        let below = self.place_below(place).ok_or(StoreFault::Beyond)?;
+        self.below.enter(point, below, reading)
     }
 
     fn void(&mut self, point: u32, place: u32) -> Result<(), StoreFault> {
-        let span = self.below.span();
-        if place < span.saturating_sub(self.ahead) {
-            self.below.void(point, place + self.ahead)
-        } else {
-            Err(StoreFault::Beyond)
-        }
+        let below = self.place_below(place).ok_or(StoreFault::Beyond)?;
+        self.below.void(point, below)
     }
 }

@@ -15,6 +15,13 @@ pub use clock::Clock;
 pub use lent::Lent;
 pub use pair::Pair;
 
+// The most points and places of any store, and the most energy of a reading.
+pub const MOST_POINTS: u32 = 4096;
+
+pub const MOST_SPAN: u32 = 1_179_648;
+
+pub const MOST_ENERGY: u16 = 5000;
+
 // The energy of one interval at one point, in units of 0.1 kWh.
 #[derive(Clone, Copy, PartialEq, Eq, Debug)]
 pub struct Reading {
@@ -25,25 +32,20 @@ pub struct Reading {
 #[derive(Clone, Copy, PartialEq, Eq, Debug)]
 pub enum StoreFault {
     // the point or the place lies beyond the store
-    Beyond,
+    Beyond = 1,
     // the reading is above 5,000
-    TooLarge,
+    TooLarge = 2,
     // a new place where the point has none free
-    Full,
+    Full = 3,
     // nothing stands there to void
-    Nothing,
+    Nothing = 4,
 }
 
 impl Refuse for StoreFault {
     ghost refusal = { store_refusal };
 
     fn number(&self) -> u8 {
-        match self {
-            StoreFault::Beyond => 1,
-            StoreFault::TooLarge => 2,
-            StoreFault::Full => 3,
-            StoreFault::Nothing => 4,
-        }
+        *self as u8
     }
 }
 

@@ -1,15 +1,20 @@
 // Two stores as one: the first's points, then the second's, cut at 4,096; the smaller span.
-ghost use Rattle.std.specs.Prelude.{◌≡◌};
-ghost use Rattle.store.specs.Pairs.{paired, paired_sound};
+ghost use Rattle.std.specs.Prelude.{◌≡◌, cond, None, nat_lt};
+ghost use Rattle.store.specs.Pairs.{paired, paired_sound, side_of, span_of};
 
-use crate::{Reading, Store, StoreFault};
-
-const MOST_POINTS: u32 = 4096;
+use crate::{MOST_POINTS, Reading, Store, StoreFault};
 
 #[derive(Drop)]
 pub struct Pair<A, B> {
     first: A,
     second: B,
+}
+
+// The store that has a point of the pair, and the point's number there.
+#[derive(Clone, Copy)]
+enum Side {
+    First(u32),
+    Second(u32),
 }
 
 impl<A: Store, B: Store> Pair<A, B> {
@@ -18,6 +23,32 @@ impl<A: Store, B: Store> Pair<A, B> {
         ensures second { result.second ≡ second }
     {
         Pair { first, second }
+    }
+
+    // The side of a point, or none beyond.
+    fn side(&self, point: u32) -> Option<Side>
+        ensures { result ≡ side_of (A.meaning self.now.first) (B.meaning self.now.second) point }
+    {
+        if point >= self.points() {
+            return None;
+        }
+        let first = self.first.points();
+        if point < first {
+            Some(Side::First(point))
+        } else {
+            Some(Side::Second(point - first))
+        }
+    }
+
+    // The side of a place of a point, or none beyond.
+    fn side_of_place(&self, point: u32, place: u32) -> Option<Side>
+        ensures { let a = A.meaning self.now.first in let b = B.meaning self.now.second in result ≡ cond (nat_lt place (span_of a b)) (side_of a b point) None }
+    {
+        if place < self.span() {
+            self.side(point)
+        } else {
+            None
+        }
     }
 }
 
@@ -35,50 +66,31 @@ impl<A: Store, B: Store> Store for Pair<A, B> {
     }
 
     fn free(&self, point: u32) -> usize {
-        if point >= self.points() {
-            return 0;
-        }
-        let first = self.first.points();
-        if point < first {
-            self.first.free(point)
-        } else {
-            self.second.free(point - first)
+        match self.side(point) {
+            Some(Side::First(there)) => self.first.free(there),
+            Some(Side::Second(there)) => self.second.free(there),
+            None => 0,
         }
     }
 
     fn read(&self, point: u32, place: u32) -> Option<Reading> {
-        if point >= self.points() || place >= self.span() {
-            return None;
-        }
-        let first = self.first.points();
-        if point < first {
-            self.first.read(point, place)
-        } else {
-            self.second.read(point - first, place)
+        match self.side_of_place(point, place)? {
+            Side::First(there) => self.first.read(there, place),
+            Side::Second(there) => self.second.read(there, place),
         }
     }
 
     fn enter(&mut self, point: u32, place: u32, reading: Reading) -> Result<(), StoreFault> {
-        if point >= self.points() || place >= self.span() {
-            return Err(StoreFault::Beyond);
-        }
-        let first = self.first.points();
-        if point < first {
-            self.first.enter(point, place, reading)
-        } else {
-            self.second.enter(point - first, place, reading)
+        match self.side_of_place(point, place).ok_or(StoreFault::Beyond)? {
+            Side::First(there) => self.first.enter(there, place, reading),
+            Side::Second(there) => self.second.enter(there, place, reading),
         }
     }
 
     fn void(&mut self, point: u32, place: u32) -> Result<(), StoreFault> {
-        if point >= self.points() || place >= self.span() {
-            return Err(StoreFault::Beyond);
-        }
-        let first = self.first.points();
-        if point < first {
-            self.first.void(point, place)
-        } else {
-            self.second.void(point - first, place)
+        match self.side_of_place(point, place).ok_or(StoreFault::Beyond)? {
+            Side::First(there) => self.first.void(there, place),
+            Side::Second(there) => self.second.void(there, place),
         }
     }
 }

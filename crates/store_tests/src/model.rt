@@ -1,110 +1,142 @@
-// A plain model of a store: an array with the energy at each place, and the free number of each point.
+// A plain model of a store: what stands at each place of each point, and how many places are free there.
+use store::{MOST_ENERGY, Reading, StoreFault};
 
-const MOST_POINTS: u32 = 4;
+const MOST_POINTS: usize = 4;
 
-const MOST_PLACES: u32 = 16;
+const MOST_PLACES: usize = 16;
+
+// Which answers came.
+#[derive(Clone, Copy, PartialEq, Eq, Debug, Default)]
+pub struct Seen {
+    pub done: bool,
+    pub beyond: bool,
+    pub too_large: bool,
+    pub full: bool,
+    pub nothing: bool,
+}
+
+impl Seen {
+    fn note(&mut self, answer: Result<(), StoreFault>) {
+        match answer {
+            Ok(()) => self.done = true,
+            Err(StoreFault::Beyond) => self.beyond = true,
+            Err(StoreFault::TooLarge) => self.too_large = true,
+            Err(StoreFault::Full) => self.full = true,
+            Err(StoreFault::Nothing) => self.nothing = true,
+        }
+    }
+}
+
+#[derive(Clone, Copy)]
+struct Point {
+    free: usize,
+    cells: [Option<Reading>; MOST_PLACES],
+}
+
+impl Point {
+    fn enter(&mut self, place: usize, reading: Reading) -> Result<(), StoreFault> {
+        let cell = self.cells.get_mut(place).ok_or(StoreFault::Beyond)?;
+        if reading.energy > MOST_ENERGY {
+            return Err(StoreFault::TooLarge);
+        }
+        if cell.is_none() {
+            self.free = self.free.checked_sub(1).ok_or(StoreFault::Full)?;
+        }
+        *cell = Some(reading);
+        Ok(())
+    }
+
+    fn void(&mut self, place: usize) -> Result<(), StoreFault> {
+        let cell = self.cells.get_mut(place).ok_or(StoreFault::Beyond)?;
+        cell.take().ok_or(StoreFault::Nothing)?;
+        self.free = self.free.saturating_add(1);
+        Ok(())
+    }
+}
 
 #[derive(Clone, Copy)]
 pub struct Model {
-    points: u32,
+    count: u32,
     span: u32,
-    cells: [Option<u16>; 64],
-    free: [usize; 4],
-    // which refusal numbers came, with 0 for an entry and 5 for a voiding that was done
-    seen: [bool; 6],
+    points: [Point; MOST_POINTS],
+    entries: Seen,
+    voidings: Seen,
 }
 
 impl Model {
-    pub fn new(points: u32, span: u32, free: [usize; 4]) -> Model {
+    pub fn new(count: u32, span: u32, free: [usize; MOST_POINTS]) -> Model {
         Model {
-            points,
+            count,
             span,
-            cells: [None; 64],
-            free,
-            seen: [false; 6],
+            points: free.map(|free| Point {
+                free,
+                cells: [None; MOST_PLACES],
+            }),
+            entries: Seen::default(),
+            voidings: Seen::default(),
         }
     }
 
     pub fn points(&self) -> u32 {
-        self.points
+        self.count
     }
 
     pub fn span(&self) -> u32 {
         self.span
     }
 
-    pub fn seen(&self) -> [bool; 6] {
-        self.seen
+    // The answers to entries.
+    pub fn entries(&self) -> Seen {
+        self.entries
+    }
+
+    // The answers to voidings.
+    pub fn voidings(&self) -> Seen {
+        self.voidings
     }
 
     pub fn free(&self, point: u32) -> usize {
-        if point >= self.points || point >= MOST_POINTS {
-            return 0;
+        if point < self.count {
+            self.points
+                .get(point as usize)
+                .map_or(0, |point| point.free)
+        } else {
+            0
         }
-        self.free[point as usize]
     }
 
-    // The index of a place in the array.
-    fn cell(&self, point: u32, place: u32) -> Option<usize> {
-        if point >= self.points
-            || place >= self.span
-            || point >= MOST_POINTS
-            || place >= MOST_PLACES
-        {
-            return None;
+    pub fn read(&self, point: u32, place: u32) -> Option<Reading> {
+        if point < self.count && place < self.span {
+            *self.points.get(point as usize)?.cells.get(place as usize)?
+        } else {
+            None
         }
-        Some(point as usize * 16 + place as usize)
     }
 
-    pub fn read(&self, point: u32, place: u32) -> Option<u16> {
-        let cell = self.cell(point, place)?;
-        if cell >= 64 {
-            return None;
+    // The point of a place, or none beyond.
+    fn point(&mut self, point: u32, place: u32) -> Option<&mut Point> {
+        if point < self.count && place < self.span {
+            self.points.get_mut(point as usize)
+        } else {
+            None
         }
-        self.cells[cell]
     }
 
-    // The number of the refusal, 0 where the reading is entered.
-    pub fn enter(&mut self, point: u32, place: u32, energy: u16) -> u8 {
-        let Some(cell) = self.cell(point, place) else {
-            self.seen[1] = true;
-            return 1;
+    pub fn enter(&mut self, point: u32, place: u32, reading: Reading) -> Result<(), StoreFault> {
+        let answer = match self.point(point, place) {
+            Some(point) => point.enter(place as usize, reading),
+            None => Err(StoreFault::Beyond),
         };
-        if cell >= 64 {
-            return 255;
-        }
-        if energy > 5000 {
-            self.seen[2] = true;
-            return 2;
-        }
-        if self.cells[cell].is_none() {
-            if self.free[cell / 16] == 0 {
-                self.seen[3] = true;
-                return 3;
-            }
-            self.free[cell / 16] -= 1;
-        }
-        self.cells[cell] = Some(energy);
-        self.seen[0] = true;
-        0
+        self.entries.note(answer);
+        answer
     }
 
-    // The number of the refusal, 0 where the reading is voided.
-    pub fn void(&mut self, point: u32, place: u32) -> u8 {
-        let Some(cell) = self.cell(point, place) else {
-            return 1;
+    pub fn void(&mut self, point: u32, place: u32) -> Result<(), StoreFault> {
+        let answer = match self.point(point, place) {
+            Some(point) => point.void(place as usize),
+            None => Err(StoreFault::Beyond),
         };
-        if cell >= 64 {
-            return 255;
-        }
-        if self.cells[cell].is_none() {
-            self.seen[4] = true;
-            return 4;
-        }
-        self.cells[cell] = None;
-        let free = self.free[cell / 16];
-        self.free[cell / 16] = free.saturating_add(1);
-        self.seen[5] = true;
-        0
+        self.voidings.note(answer);
+        answer
     }
 }

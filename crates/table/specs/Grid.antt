@@ -2,7 +2,7 @@
 use Rattle.std.specs.Prelude.{◌≡◌, ℕ, ◌+◌, ◌*◌, ◌<◌, ◌≤◌, Bool, true, cond, ◌&&◌, List, length, Some, None, Option, nat_le, nat_lt, slice_index}
 use Rattle.std.proofs.Common.{arith}
 use Rattle.std.proofs.lemmas.Nat.{mul-add-lt}
-use Rattle.std.proofs.lemmas.Bool.{le-ltb, ltb-true, and_parts, and_right, and_left, cond_both, cond-false}
+use Rattle.std.proofs.lemmas.Bool.Decides.{nat_tests}
 use Rattle.refusal.specs.declared.MakeFault.{MakeFault}
 use Rattle.refusal.specs.declared.MakeFault.TheVariants.{Limits}
 use Rattle.store.specs.declared.Reading.{Reading}
@@ -31,6 +31,10 @@ made_span (Some e) n = 0
 abbrev pub reading_at : List ℕ → List ℕ → ℕ → Option Reading
 reading_at rs ps k = cond (bit ps k) (Some (record { energy = slice_index rs k })) None
 
+-- the cell of the place q of the point p, where n points of w places have it
+abbrev pub cell_of : ℕ → ℕ → ℕ → ℕ → Option ℕ
+cell_of n w p q = cond (nat_lt p n && nat_lt q w) (Some (p * w + q)) None
+
 -- place q of point p is the cell p * span + q
 abbrev pub grid : ℕ → ℕ → List ℕ → List ℕ → Meaning
 grid points span rs ps = record {
@@ -39,13 +43,6 @@ grid points span rs ps = record {
   at = λ p q. cond (nat_lt p points && nat_lt q span) (reading_at rs ps (p * span + q)) None;
   free = λ p. cond (nat_lt p points) (clear ps (p * span) span) 0;
 }
-
--- m has n points and w places, with no reading, so that every place is free
-pub record Empty (n w : ℕ) (m : Meaning) : Type 0 where
-  pub points : m.points ≡ n
-  pub span : m.span ≡ w
-  pub none : (p q : ℕ) → m.at p q ≡ None
-  pub all : (p : ℕ) → m.free p ≡ cond (nat_lt p n) w 0
 
 -- the cells from n on have the readings and the marks that they had
 abbrev pub Kept : ℕ → List ℕ → List ℕ → List ℕ → List ℕ → Type 0
@@ -60,23 +57,14 @@ pub record SameLengths (rs ps rs' ps' : List ℕ) : Type 0 where
 abbrev pub Small : ℕ → List ℕ → List ℕ → Type 0
 Small n rs ps = (k : ℕ) → (k < n) × (bit ps k ≡ true) → slice_index rs k ≤ 5000
 
--- what is chosen is small if it is so where the test passed
-chosen_small : (b : Bool) (x : Option Reading) (v : Reading) → (b ≡ true → x ≡ Some v → v.energy ≤ 5000) → cond b x None ≡ Some v → v.energy ≤ 5000
-chosen_small b x v f = cond_both b x None (λ o. o ≡ Some v → v.energy ≤ 5000) f (λ n e. let z : ◌≡◌ {A = ℕ} 0 1 = cc in absurd (omega arith))
-
-some_small : (w : ℕ) (v : Reading) → w ≤ 5000 → Some (record { energy = w }) ≡ Some v → v.energy ≤ 5000
-some_small w v h e = let z : w ≡ v.energy = cc in omega arith
-
 -- a table within its limits, with small readings, is what every store owes
 pub grid_sound : (points span : ℕ) (rs ps : List ℕ) → (1 ≤ points) × (points ≤ 16) × (span ≤ 1179648) → Small (points * span) rs ps → Sound (grid points span rs ps)
 grid_sound points span rs ps limits small = record {
   some = limits.0;
   most = omega (arith, limits.1);
   wide = limits.2;
-  small = λ p q v. chosen_small (nat_lt p points && nat_lt q span) _ v (λ t. chosen_small (bit ps (p * span + q)) _ v (λ b.
-      some_small _ v (let i = and_parts (nat_lt p points) (nat_lt q span) t in
-      small (p * span + q) (omega (arith, mul-add-lt p span q points (ltb-true p points i.0) (ltb-true q span i.1)), b))));
-  past_points = λ p q h. cond-false (nat_lt p points && nat_lt q span) _ None (and_left (nat_lt p points) (nat_lt q span) (le-ltb p points h));
-  past_span = λ p q h. cond-false (nat_lt p points && nat_lt q span) _ None (and_right (nat_lt p points) (nat_lt q span) (le-ltb q span h));
-  past_free = λ p h. cond-false (nat_lt p points) _ 0 (le-ltb p points h);
+  small = λ p q v. grind (arith, nat_tests, mul-add-lt p span q points, small (p * span + q));
+  past_points = λ p q h. grind (arith, nat_tests, h);
+  past_span = λ p q h. grind (arith, nat_tests, h);
+  past_free = λ p h. grind (arith, nat_tests, h);
 }

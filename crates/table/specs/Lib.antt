@@ -1,2 +1,3 @@
 pub mod Presence
 pub mod Grid
+pub mod Meanings

@@ -1,5 +1,5 @@
 // The presence map: one bit for each cell, eight cells to a byte, the lowest first.
-ghost use Rattle.std.specs.Prelude.{◌≡◌, ◌+◌, ◌-◌, ◌*◌, ◌/◌, ◌^◌, ◌<◌, ◌≤◌, length};
+ghost use Rattle.std.specs.Prelude.{◌≡◌, ◌+◌, ◌-◌, ◌*◌, ◌/◌, ◌^◌, ◌<◌, ◌≤◌, length, sum_by, count_ones};
 ghost use Rattle.table.specs.Presence.{clear, marked, Cleared};
 
 // Clears the bits of the cells below `cells`.
@@ -8,25 +8,19 @@ pub(crate) fn clear_below(present: &mut [u8], cells: usize)
     ensures { Cleared cells present.old present.new }
 {
     let whole = cells / 8;
-    for i in 0..whole {
-        present[i] = 0;
-    }
+    present[..whole].fill(0);
     let rest = cells % 8;
     if rest > 0 {
         present[whole] = present[whole] >> rest << rest;
     }
 }
 
-// The set bits of the bytes from `first` to before `end`.
-fn ones_of_bytes(present: &[u8], first: usize, end: usize) -> usize
-    requires { (first ≤ end) × ((end ≤ length present.now) × (end < 2 ^ 32)) }
-    ensures { result + marked present.now (8 * first) ≡ marked present.now (8 * end) }
+// The set bits of some bytes.
+fn ones(bytes: &[u8]) -> usize
+    requires { length bytes.now < 2 ^ 32 }
+    ensures { result ≡ sum_by count_ones bytes.now }
 {
-    let mut n = 0;
-    for i in first..end {
-        n += present[i].count_ones() as usize;
-    }
-    n
+    bytes.iter().map(|byte| byte.count_ones() as usize).sum()
 }
 
 // The set bits before `cell` in its byte.
@@ -47,6 +41,5 @@ pub(crate) fn ones_between(present: &[u8], first: usize, end: usize) -> usize
     requires { (first ≤ end) × ((end ≤ 8 * length present.now) × (end < 2 ^ 32)) }
     ensures { result + clear present.now first (end - first) ≡ end - first }
 {
-    let ones = ones_of_bytes(present, first / 8, end / 8) + ones_before(present, end);
-    ones - ones_before(present, first)
+    ones(&present[first / 8..end / 8]) + ones_before(present, end) - ones_before(present, first)
 }

@@ -3,10 +3,28 @@
 // prints for it. tools/vectors.py makes both files, the expected one by a model that shares no code with the crates.
 #![tactic(auto)]
 
-ghost use Rattle.std.specs.Prelude.{◌+◌, ◌≤◌, length, IfSome};
+ghost use Rattle.std.specs.Prelude.{length};
+ghost use Rattle.std.specs.Iterator.{at_most};
 
 use std::alloc::{AllocError, Global};
 use std::io::{Read, Write};
+
+// The cases that are still to come; one that is not there as a whole ends them.
+#[derive(Drop)]
+struct Cases<'a>(&'a [u8]);
+
+impl<'a> Iterator for Cases<'a> {
+    type Item = &'a [u8];
+
+    ghost remaining = { λ c. at_most (length c.0.now) };
+
+    fn next(&mut self) -> Option<&'a [u8]> {
+        let (length, rest) = self.0.split_first_chunk::<4>()?;
+        let (case, rest) = rest.split_at_checked(u32::from_be_bytes(*length) as usize)?;
+        self.0 = rest;
+        Some(case)
+    }
+}
 
 // Appends the number of a case and its output.
 fn run_case(
@@ -21,34 +39,11 @@ fn run_case(
     out.extend_from_slice(text.as_slice())
 }
 
-// The end of the case that begins here, where the whole of it is there.
-fn case_end(cases: &[u8], at: usize) -> Option<usize>
-    ensures { IfSome result (λ e. (at + 4 ≤ e) × (e ≤ length cases.now)) }
-{
-    if at > cases.len() {
-        return None;
-    }
-    let rest = &cases[at..];
-    let Some(word) = clerk::word_at(rest, 0) else {
-        return None;
-    };
-    let length = word as usize;
-    if rest.len() < 4 || length > rest.len() - 4 {
-        return None;
-    }
-    Some(at + 4 + length)
-}
-
 // Runs all cases.
 fn run_cases(heap: Global, cases: &[u8]) -> Result<Vec<u8>, AllocError> {
     let mut out = Vec::new(heap);
-    let mut at: usize = 0;
-    for number in 0..cases.len() {
-        let Some(end) = case_end(cases, at) else {
-            break;
-        };
-        run_case(heap, number, &cases[at + 4..end], &mut out)?;
-        at = end;
+    for (number, input) in Cases(cases).enumerate() {
+        run_case(heap, number, input, &mut out)?;
     }
     Ok(out)
 }

@@ -1,16 +1,18 @@
-use Rattle.std.proofs.Common.{List, length, ap, arith, length-append}
-use Rattle.std.proofs.lemmas.List.{take_all}
+use Rattle.std.proofs.Common.{rules, ◌≡◌, ◌∙◌, sym, min, length, arith}
+use Rattle.std.specs.List.{sum_by}
+use Rattle.std.proofs.iter.runs.Sources.{sums}
+use Rattle.std.proofs.lemmas.List.Concat.{length-flat_map}
 use Rattle.settlement.specs.declared.Line.{Line}
-use Rattle.report.specs.Texts.{rows_text}
-use Rattle.report.proofs.Rows.{no_line, rows_more}
+use Rattle.report.specs.Texts.{row_text}
+use Rattle.report.proofs.Rows.{capped}
 use Rattle.report.proofs.lines_width.Goals as goal
 
-pub loop-line-preserved : goal.loop-line-preserved
-loop-line-preserved c =
-    let m = ap length (rows_more c.args.lines.now c.loop-line.line-index no_line c.loop-line-test.true) in
-    (omega (arith, c.loop-line.invariant.0, c.line_width.ensures.exact, simp length-append at m), omega (arith, c.loop-line.invariant.1, c.line_width.ensures.small))
+pub returns-clause-exact : goal.returns-clause-exact
+returns-clause-exact c =
+    let s : c.sum.result ≡ sum_by (λ (line : Line). length (row_text line)) c.args.lines.now = search (rules, sums) in
+    s ∙ sym (length-flat_map row_text c.args.lines.now)
 
-pub returns : goal.returns
-returns c =
-    let e = ap (λ (ls : List Line). length (rows_text ls)) (take_all c.loop-line.line-index c.args.lines.now c.loop-line-test.false) in
-    record { exact = omega (arith, c.loop-line.invariant.0, e); small = omega (arith, c.loop-line.invariant.1) }
+pub returns-clause-small : goal.returns-clause-small
+returns-clause-small c =
+    let s : c.sum.result ≡ sum_by (λ (line : Line). min (length (row_text line)) 126) c.args.lines.now = search (rules, sums) in
+    omega (arith, s, capped (λ (line : Line). length (row_text line)) 126 c.args.lines.now)

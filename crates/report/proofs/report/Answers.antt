@@ -1,46 +1,77 @@
-use Rattle.std.proofs.Common.{◌≡◌, ℕ, ◌+◌, ◌≤◌, true, leb, List, ◌++◌, length, drop, ℤ, sym, refl, ap, ◌∙◌, subst, zero-add, arith, w64}
-use Rattle.std.specs.Fmt.{signed_decimal}
+use Rattle.std.proofs.Common.{rules, Ok, ◌≡◌, ℕ, ◌+◌, ◌≤◌, List, ◌++◌, length, take, drop, ℤ, ap, subst, ◌∙◌, zero-add, arith, length-append, w64}
 use Rattle.std.proofs.lemmas.Int.{to_z-of_z}
-use Rattle.std.proofs.lemmas.Bool.{leb-true}
+use Rattle.std.proofs.lemmas.List.{take_all}
 use Rattle.settlement.specs.declared.Line.{Line}
-use Rattle.report.specs.Texts.{heading, sum_label, rows_text, report_text, most_bytes, Put}
-use Rattle.report.proofs.Puts.{put_more, put_passed}
-use Rattle.report.proofs.Rows.{report_length}
+use Rattle.report.specs.declared.page.Page.{Page}
+use Rattle.report.specs.Texts.{piece, heading, sum_label, rows_text, row_text, report_text, Put, Written, Reported}
+use Rattle.report.proofs.Puts.{written_more, written_room, turn_room, turn}
 use Rattle.report.proofs.report.Goals as goal
 
 -- the parts of a text that fits
-room : (lines : List Line) (sum : ℤ) (n : ℕ) → true ≡ leb (length (report_text lines sum)) n → 49 + length (rows_text lines) + (length (signed_decimal sum) + 1) ≤ n
-room lines sum n h = omega (arith, report_length lines sum, leb-true (length (report_text lines sum)) n (sym h))
+record Fits (lines : List Line) (sum : ℤ) (n : ℕ) : Type 0 where
+  pub all : 0 + length (report_text lines sum) ≤ n
+  pub rows : 0 + length (heading ++ rows_text lines) ≤ n
+  pub labelled : 0 + length (heading ++ rows_text lines ++ sum_label) ≤ n
 
--- a text put at the start
-from_start : {before after text : List ℕ} {next : ℕ} → Put before 0 text after next → (next ≡ length text) × (after ≡ text ++ drop (length text) before)
-from_start {before} {after} {text} p = (p.place ∙ zero-add (length text), p.whole ∙ ap (λ n. text ++ drop n before) (zero-add (length text)))
+fits : (lines : List Line) (sum : ℤ) (w n : ℕ) → w ≡ length (report_text lines sum) → w ≤ n → Fits lines sum n
+fits lines sum w n e h =
+    let end = length-append (heading ++ rows_text lines ++ sum_label) (piece sum 10) in
+    let label = length-append (heading ++ rows_text lines) sum_label in
+    record { all = omega arith; rows = omega arith; labelled = omega arith }
 
-pub put_bytes-first-requires : goal.put_bytes-first-requires
-put_bytes-first-requires c = omega (arith, room c.args.lines.now _ (length c.args.text.now) c.if-not-has_room.ensures.test)
+-- all lines are written
+all_written : (lines : List Line) (i : ℕ) {page last : Page} → length lines ≤ i → Written page (rows_text (take i lines)) last → Written page (rows_text lines) last
+all_written lines i {page} {last} h p = subst (λ ls. Written page (rows_text ls) last) (take_all i lines h) p
 
-pub put_lines-past-requires : goal.put_lines-past-requires
-put_lines-past-requires c = omega (arith, room c.args.lines.now _ (length c.args.text.now) c.if-not-has_room.ensures.test)
+pub put-requires : goal.put-requires
+unfolding heading
+put-requires c =
+    let f = fits _ _ _ _ c.text_width.ensures.exact c.if-text_width-text.false in
+    omega (arith, f.rows, length-append heading (rows_text c.args.lines.now))
 
-pub put_bytes-last-requires : goal.put_bytes-last-requires
-put_bytes-last-requires c = omega (arith, room c.args.lines.now _ (length c.args.text.now) c.if-not-has_room.ensures.test)
+pub put_line-requires : goal.put_line-requires
+unfolding heading
+put_line-requires c =
+    let lines = c.args.lines.now in
+    let f = fits _ _ _ _ c.text_width.ensures.exact c.if-text_width-text.false in
+    turn_room row_text lines _ _ c.loop-line-test.true (written_room (rows_text lines) f.rows c.put.ensures) c.loop-line.invariant
+
+pub loop-line-preserved : goal.loop-line-preserved
+unfolding heading
+loop-line-preserved c =
+    let lines = c.args.lines.now in
+    let f = fits _ _ _ _ c.text_width.ensures.exact c.if-text_width-text.false in
+    turn row_text lines _ _ c.loop-line-test.true (omega (arith, written_room (rows_text lines) f.rows c.put.ensures)) c.loop-line.invariant c.put_line.ensures
+
+pub put-requires-2 : goal.put-requires-2
+unfolding heading sum_label
+put-requires-2 c =
+    let lines = c.args.lines.now in
+    let f = fits _ _ _ _ c.text_width.ensures.exact c.if-text_width-text.false in
+    let rows = written_more (omega arith) c.put.ensures (all_written lines _ c.loop-line-test.false c.loop-line.invariant) in
+    written_room sum_label f.labelled rows
 
 pub put_number-requires : goal.put_number-requires
-put_number-requires c = omega (arith, room c.args.lines.now _ (length c.args.text.now) c.if-not-has_room.ensures.test)
-
-pub returns : goal.returns
 unfolding heading sum_label
-returns c =
+put_number-requires c =
     let lines = c.args.lines.now in
-    let text = c.args.text.now in
-    let low : 0 ≤ length text = omega arith in
-    let rows = put_more low c.put_bytes-first.ensures c.put_lines-past.ensures in
-    let total = put_passed 10 c.ranges.sum.sfits refl c.put_number.ensures in
-    let all : Put text 0 (report_text lines c.args.sum) c.put_number.new.text c.put_number.result = put_more low (put_more low rows c.put_bytes-last.ensures) total in
-    let at-start = from_start all in
-    let fits = leb-true _ (length text) (sym c.if-not-has_room.ensures.test) in
-    let same = to_z-of_z w64 c.args.sum c.ranges.sum in
-    record {
-      reported = (subst (λ (z : ℤ). length (report_text lines z) ≤ length text) same fits, at-start.0, at-start.1);
-      most = subst (λ (z : ℤ). length (report_text lines z) ≤ most_bytes (length lines)) same c.if-not-has_room.ensures.most;
-    }
+    let f = fits _ _ _ _ c.text_width.ensures.exact c.if-text_width-text.false in
+    let rows = written_more (omega arith) c.put.ensures (all_written lines _ c.loop-line-test.false c.loop-line.invariant) in
+    written_room (piece _ 10) f.all (written_more (omega arith) rows c.put-2.ensures)
+
+-- a text of another number that is the same
+told : {text after : List ℕ} (lines : List Line) {z y : ℤ} {next : ℕ} → z ≡ y → 0 + length (report_text lines z) ≤ length text → Put text 0 (report_text lines z) after next → Reported lines y text after (Ok next)
+told {text} {after} lines {z} {next = next} e h p =
+    let k = zero-add (length (report_text lines z)) in
+    subst (λ b. Reported lines b text after (Ok next)) e (omega (arith, h), p.place ∙ k, p.whole ∙ ap (λ n. report_text lines z ++ drop n text) k)
+
+pub returns-clause-reported : goal.returns-clause-reported
+unfolding heading sum_label
+returns-clause-reported c =
+    let lines = c.args.lines.now in
+    let f = fits _ _ _ _ c.text_width.ensures.exact c.if-text_width-text.false in
+    let rows = written_more (omega arith) c.put.ensures (all_written lines _ c.loop-line-test.false c.loop-line.invariant) in
+    let all = written_more (omega arith) (written_more (omega arith) rows c.put-2.ensures) c.put_number.ensures in
+    let t = told lines (to_z-of_z w64 c.args.sum c.ranges.sum) f.all all.put in
+    let same = all.same in
+    (t.0, t.1, search rules)

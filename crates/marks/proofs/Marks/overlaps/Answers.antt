@@ -6,7 +6,7 @@ use Rattle.marks.proofs.EventLists.{meets_next, meets_none, meets_last}
 use Rattle.marks.proofs.Marks.overlaps.Goals as goal
 
 pub returns-then-starts_before : goal.returns-then-starts_before
-returns-then-starts_before c o h =
+returns-then-starts_before c h =
     let s = c.args.self.now in
     let es = held s.events in
     let f = c.args.first in
@@ -14,10 +14,10 @@ returns-then-starts_before c o h =
     let i = c.first_at-rank.result in
     let e : c.saturating_add.result ≡ f + n = omega (arith, c.saturating_add.ensures) in
     let t : starts_before (f + n) (slice_get es i) ≡ true = ap (λ p. starts_before p (slice_get es i)) (sym e) ∙ sym c.starts_before.ensures ∙ c.if-starts_before.true in
-    sym (meets_next s.resolution s.days o.fit.1 es o.events o.placed o.apart f n i (c.first_at-rank.ensures.is o.events) t)
+    sym (meets_next s.resolution s.days s.fit.1 es s.events.rising s.placed s.apart f n i c.first_at-rank.ensures.is t)
 
 pub returns-then-rank-eq0 : goal.returns-then-rank-eq0
-returns-then-rank-eq0 c o h =
+returns-then-rank-eq0 c h =
     let s = c.args.self.now in
     let es = held s.events in
     let f = c.args.first in
@@ -25,10 +25,10 @@ returns-then-rank-eq0 c o h =
     let i = c.first_at-rank.result in
     let e : c.saturating_add.result ≡ f + n = omega (arith, c.saturating_add.ensures) in
     let t : starts_before (f + n) (slice_get es i) ≡ false = ap (λ p. starts_before p (slice_get es i)) (sym e) ∙ sym c.starts_before.ensures ∙ c.if-starts_before.false in
-    sym (meets_none s.resolution s.days o.fit.1 es o.events o.placed o.apart f n i (c.first_at-rank.ensures.is o.events) t c.if-rank-eq0.true)
+    sym (meets_none s.resolution s.days s.fit.1 es s.events.rising s.placed s.apart f n i c.first_at-rank.ensures.is t c.if-rank-eq0.true)
 
 pub returns : goal.returns
-returns c o h =
+returns c h =
     let s = c.args.self.now in
     let es = held s.events in
     let f = c.args.first in
@@ -36,4 +36,4 @@ returns c o h =
     let i = c.first_at-rank.result in
     let e : c.saturating_add.result ≡ f + n = omega (arith, c.saturating_add.ensures) in
     let t : starts_before (f + n) (slice_get es i) ≡ false = ap (λ p. starts_before p (slice_get es i)) (sym e) ∙ sym c.starts_before.ensures ∙ c.if-starts_before.false in
-    c.ends_after.ensures o ∙ sym (meets_last s.resolution s.days o.fit.1 es o.events o.placed o.apart f n i (c.first_at-rank.ensures.is o.events) t (omega (arith, c.if-rank-eq0.false)) c.first_at-rank.ensures.within)
+    c.ends_after.ensures ∙ sym (meets_last s.resolution s.days s.fit.1 es s.events.rising s.placed s.apart f n i c.first_at-rank.ensures.is t (omega (arith, c.if-rank-eq0.false)) c.first_at-rank.ensures.within)

@@ -1,42 +1,26 @@
-use Rattle.std.proofs.Common.{◌≡◌, ◌+◌, ◌<◌, length, take, refl, ap, ◌∙◌, subst, arith}
-use Rattle.std.specs.List.{insert}
-use Rattle.register.specs.Order.{seek}
+use Rattle.std.proofs.Common.{◌<◌, length, refl, arith}
+use Rattle.std.proofs.lemmas.List.{length-take-le}
 use Rattle.register.specs.Held.{held, capacity}
-use Rattle.register.proofs.Shifts.{front_all}
-use Rattle.register.proofs.Edits.{taken_at, put_done, put_finds, put_counts, put_order}
+use Rattle.register.proofs.Edits.{taken_at, put_done, put_finds, put_order}
 use Rattle.register.proofs.Register.insert.Goals as goal
 
-pub returns-in-Ok : goal.returns-in-Ok
-returns-in-Ok g c =
+pub returns-in_default-clause-done : goal.returns-in_default-clause-done
+returns-in_default-clause-done g c =
     let s = c.args.self.now in
-    let l = c.in-Ok.ensures in
-    record {
-      done = λ rise. (taken_at g.R.Record.keyed (held s) (held s) c.in-Ok.field-0 c.key.result l.0 l.1 l.2 c.args.record c.key.ensures (capacity s) rise, refl {a = held s});
-      finds = λ rise j. refl {a = seek g.R.Record.keyed j (held s)};
-      counts = refl {a = held s};
-      room = refl {a = capacity s};
-      order = λ rise. rise;
-    }
+    (taken_at g.R.Record.keyed c.key.result (held s) s.rising c.in_default.field-0 c.in_default.ensures c.args.record c.key.ensures (capacity s), refl {a = held s})
 
-pub returns-else-used-self : goal.returns-else-used-self
-returns-else-used-self g c =
-    let key = g.R.Record.keyed in
+pub invariant_of-self-clause-rising : goal.invariant_of-self-clause-rising
+invariant_of-self-clause-rising g c =
     let s = c.args.self.now in
-    let x = c.args.record in
-    let k = c.key.result in
-    let e = c.key.ensures in
-    let at = c.in-Err.at in
-    let l = c.in-Err.ensures in
-    let xs = held s in
-    let n = c.len-used.result in
-    let ys = take (n + 1) c.put_in.new.slots in
-    let f : take n s.slots.now ≡ xs = ap (λ m. take m s.slots.now) c.len-used.ensures.is ∙ front_all s.used s.slots.now in
-    let w : ys ≡ insert xs at x = subst (λ r. ys ≡ insert r at x) f c.put_in.ensures in
-    let lt : length xs < capacity s = omega arith in
-    record {
-      done = put_done key xs ys at x k e l.0 l.1 w (capacity s) lt;
-      finds = put_finds key xs ys at x k e l.0 l.1 w;
-      counts = put_counts key xs ys at x k e l.0 l.1 w;
-      room = c.put_in.auto.slots;
-      order = put_order key xs ys at x k e l.0 l.1 w;
-    }
+    rw c.put_in.ensures (put_order g.R.Record.keyed c.key.result (held s) s.rising c.in-Err.at c.args.record c.key.ensures c.in-Err.ensures)
+
+pub returns-clause-done : goal.returns-clause-done
+returns-clause-done g c =
+    let s = c.args.self.now in
+    let lt : length (held s) < capacity s = omega (arith, length-take-le s.used s.slots.now s.fits, s.fits, c.if-self.false) in
+    rw c.put_in.ensures (put_done g.R.Record.keyed c.key.result (held s) s.rising c.in-Err.at c.args.record c.key.ensures c.in-Err.ensures (capacity s) lt)
+
+pub returns-clause-finds : goal.returns-clause-finds
+returns-clause-finds g c =
+    let s = c.args.self.now in
+    rw c.put_in.ensures (put_finds g.R.Record.keyed c.key.result (held s) s.rising c.in-Err.at c.args.record c.key.ensures c.in-Err.ensures)
