@@ -2,7 +2,13 @@
 #![tactic(auto)]
 
 ghost use Rattle.std.specs.Prelude.{◌≡◌, ◌%◌, ◌<◌, ◌≤◌};
+ghost use Rattle.std.specs.Result.{result_ok};
 ghost use Rattle.calendar.specs.Days.{intervals_of, hour_of, resolution_of, kind_on, place_of, window_start, window_length};
+
+use refusal::MakeFault;
+
+// The most trading intervals of a day.
+pub const MOST_INTERVALS: u32 = Resolution::FiveMinutes as u32;
 
 #[derive(Clone, Copy, PartialEq, Eq, Debug)]
 pub enum DayKind {
@@ -24,16 +30,21 @@ pub struct Stretch {
     pub count: u16,
 }
 
-impl Resolution {
-    // The resolution with so many intervals in a day; an Option, since each caller tells a fault of its own.
-    pub fn of(intervals: u32) -> Option<Resolution>
-        ensures { result ≡ resolution_of intervals }
-    {
+// The resolution with so many intervals in a day.
+impl TryFrom<u32> for Resolution {
+    type Error = MakeFault;
+
+    ghost try_from_gives = { λ intervals r. result_ok r ≡ resolution_of intervals };
+
+    fn try_from(intervals: u32) -> Result<Resolution, MakeFault> {
         [Resolution::HalfHours, Resolution::FiveMinutes]
             .into_iter()
             .find(|resolution| resolution.intervals() == intervals)
+            .ok_or(MakeFault::Limits)
     }
+}
 
+impl Resolution {
     // The trading intervals in a day.
     pub fn intervals(self) -> u32
         ensures { result ≡ intervals_of self }

@@ -1,4 +1,4 @@
-// The days that a load is tested on in an assessment.
+// The days that a load is tested on in an assessment. Marks and methodology stay apart, as in `selection`.
 ghost use Rattle.std.specs.Prelude.{◌≡◌};
 ghost use Rattle.marks.specs.Marked.{marking};
 ghost use Rattle.choice.specs.Choice.{testing_day, test_days, test_days_of};

@@ -16,7 +16,7 @@ impl Header {
         Table::new(readings, present, self.points, self.span())
     }
 
-    // The book with no mark, of the header's days.
+    // The book with no mark, of the header's days, over three lists as in `Book::new`.
     pub fn book<'a>(
         &self,
         holidays: &'a mut [DayMark],

@@ -124,6 +124,11 @@ nth_none xs i e =
     hit (x ∷ xs) zero e l = let z : ◌≡◌ {A = ℕ} 0 1 = cc in omega arith
     hit (x ∷ xs) (suc i) e l = hit xs i e (omega arith)
 
+-- an event, where there is one, is on the day d
+abbrev pub on_day : Resolution → ℕ → Option Event → Bool
+on_day r d None = false
+on_day r d (Some e) = eqb (day_in r e.first) d
+
 module _ (r : Resolution) (es : List Event) (rise : Rising event_key es) (d i : ℕ) (at : i ≡ spot event_key (d * intervals_of r) es) where
   abbrev on : Event → Bool
   on e = eqb (day_in r e.first) d
@@ -134,7 +139,7 @@ module _ (r : Resolution) (es : List Event) (rise : Rising event_key es) (d i : 
       let g = day_below r (get_or es j f).first d b in
       ne_eqb (day_in r (get_or es j f).first) d (λ q. omega arith)
 
-  pub day_none : slice_get es i ≡ None → event_day r es d ≡ false
+  day_none : slice_get es i ≡ None → event_day r es d ≡ false
   day_none n = let l = nth_none es i n in some_false on es (λ j f h. early j f (omega arith))
 
   later : (e : Event) → slice_get es i ≡ Some e → on e ≡ false → (j : ℕ) (f : Event) → i ≤ j → j < length es → on (get_or es j f) ≡ false
@@ -148,13 +153,17 @@ module _ (r : Resolution) (es : List Event) (rise : Rising event_key es) (d i : 
       let c = eqb-false (day_in r e.first) d no' in
       ne_eqb (day_in r (get_or es j f).first) d (λ q. c (omega arith))
 
-  pub day_some : (e : Event) → slice_get es i ≡ Some e → event_day r es d ≡ on e
+  day_some : (e : Event) → slice_get es i ≡ Some e → event_day r es d ≡ on e
   day_some e n =
       let s = nth_some es i e n in
       ⊎_elim
       (λ (y : on e ≡ true). some_true on es i e s.0 (ap on (s.1 e) ∙ y) ∙ sym y)
       (λ (y : on e ≡ false). some_false on es (λ j f l. ⊎_elim (λ (m : j < i). early j f m) (λ (m : i ≤ j). later e n y j f m l) (cases_lt j i)) ∙ sym y)
       (cases_Bool (on e))
+
+  pub day_told : (o : Option Event) → slice_get es i ≡ o → event_day r es d ≡ on_day r d o
+  day_told None n = day_none n
+  day_told (Some e) n = day_some e n
 
 -- ---- whether an event overlaps another, by its neighbours
 
@@ -213,7 +222,7 @@ module _ (r : Resolution) (days : ℕ) (fit : days ≤ 4096) (es : List Event) (
 
     -- the event from the spot on
     next_meets : (o : Option Event) → slice_get es i ≡ o → starts_before (f + n) o ≡ true → some_of (overlapping f n) es ≡ true
-    next_meets None q h = let z : ◌≡◌ {A = ℕ} 0 1 = cc in absurd (omega arith)
+    next_meets None q h = absurd cc
     next_meets (Some e) q h =
         let s = nth_some es i e q in
         let w = s.1 e in
@@ -397,7 +406,7 @@ none_kept p [] n = refl
 none_kept p (x ∷ xs) n = cond-false (p x) (x ∷ filter p xs) (filter p xs) (n 0 x (omega arith)) ∙ none_kept p xs (λ i d l. n (suc i) d (omega arith))
 
 last_more : {X : Type 0} (x y : X) (xs : List X) → last_of xs ≡ Some y → last_of (x ∷ xs) ≡ Some y
-last_more x y [] e = let z : ◌≡◌ {A = ℕ} 0 1 = cc in absurd (omega arith)
+last_more x y [] e = absurd cc
 last_more x y (z ∷ zs) e = e
 
 last_step : {X : Type 0} (b : Bool) (x y : X) (xs : List X) → last_of xs ≡ Some y → last_of (cond b (x ∷ xs) xs) ≡ Some y
@@ -431,7 +440,7 @@ module _ (r : Resolution) (days : ℕ) (fit : days ≤ 4096) (es : List Event) (
 
   module _ (f i k : ℕ) (at : i ≡ spot event_key f es) (lr : i < length es → LeadRank r es i k) where
     lead_read : (o : Option Event) → seek event_key f es ≡ o → is_some o ≡ true → slice_get es k ≡ lead_of r es f
-    lead_read None q h = let z : ◌≡◌ {A = ℕ} 0 1 = cc in absurd (omega arith)
+    lead_read None q h = absurd cc
     lead_read (Some e) q h =
         let s = seek_some event_key f es rise e q in
         let l : i < length es = omega (arith, s.0) in

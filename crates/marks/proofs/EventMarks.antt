@@ -31,7 +31,7 @@ module _ (cap : ℕ) (es : List Event) (x : Event) (new : seek event_key x.first
   no_room : (e : RegisterFault) → refusal event_key cap es x ≡ Some e → ltb (length es) cap ≡ false
   no_room f e =
       ⊎_elim
-      (λ (y : ltb (length es) cap ≡ true). let q = sym by_room ∙ e in let w = cond-true (ltb (length es) cap) None (Some register.Full) y in let z : ◌≡◌ {A = ℕ} 0 1 = cc in absurd (omega arith))
+      (λ (y : ltb (length es) cap ≡ true). let q = sym by_room ∙ e in let w = cond-true (ltb (length es) cap) None (Some register.Full) y in absurd cc)
       (λ y. y)
       (cases_Bool (ltb (length es) cap))
 
@@ -57,7 +57,7 @@ module _ (m : Marks) (f n : ℕ) (there : is_some (day_within (marking m) f) ≡
 
   -- how the register's refusal is told
   full_only : (b : Bool) (e : RegisterFault) → cond b None (Some register.Full) ≡ Some e → e ≡ register.Full
-  full_only true e h = let z : ◌≡◌ {A = ℕ} 0 1 = cc in absurd (omega arith)
+  full_only true e h = absurd cc
   full_only false e h = cc
 
   pub refused_as : (e : RegisterFault) → refusal event_key (capacity m.events) (held m.events) (open_event f n) ≡ Some e → event_fault (marking m) f n ≡ Some (mark_fault e)

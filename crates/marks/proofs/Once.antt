@@ -6,7 +6,7 @@ use Rattle.marks.specs.Marked.{DaySet, Marking, DayMarked, EventMarked, SameButH
 
 -- a cause that is found stands alone
 one_cause : {U : Type 0} (f : Option MarkFault) (e : MarkFault) → f ≡ None → f ≡ Some e → U
-one_cause f e n s = let z : ◌≡◌ {A = ℕ} 0 1 = cc in absurd (omega arith)
+one_cause f e n s = absurd cc
 
 -- two sets with the same days and the same room are one
 same_days : (s t : DaySet) → ((d : ℕ) → s.has d ≡ t.has d) → s.free ≡ t.free → s ≡ t

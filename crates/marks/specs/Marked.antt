@@ -9,6 +9,7 @@ use Rattle.calendar.specs.declared.Resolution.TheVariants.{HalfHours}
 use Rattle.calendar.specs.Days.{hour_of, resolution_of, kind_on, window_start}
 use Rattle.register.specs.declared.Register.{Register}
 use Rattle.register.specs.Held.{held, capacity}
+use Rattle.register.specs.Rising.{Rising}
 use Rattle.register.specs.Order.{seek, spot}
 use Rattle.marks.specs.declared.DayMark.{DayMark}
 use Rattle.marks.specs.declared.Event.{Event}
@@ -18,7 +19,7 @@ use Rattle.marks.specs.declared.MarkFault.TheVariants.{DayBeyond, Misplaced, Ove
 use Rattle.marks.specs.declared.MarkKind.{MarkKind}
 use Rattle.marks.specs.declared.MarkKind.TheVariants.{Holiday, Exclusion}
 use Rattle.marks.specs.Keys.{day_key, event_key}
-use Rattle.marks.specs.Events.{day_in, well_placed, end_of}
+use Rattle.marks.specs.Events.{day_in, well_placed, end_of, Placed, Apart}
 
 -- a set of marked days: which days are in it, and how many more it has room for
 pub record DaySet : Type 0 where
@@ -205,6 +206,45 @@ pub record LeadRank (r : Resolution) (es : List Event) (i k : ℕ) : Type 0 wher
 abbrev pub window_from : Resolution → Option Event → Option ℕ
 window_from r None = None
 window_from r (Some l) = Some (window_start r l.first)
+
+-- ---- what every book keeps
+
+-- the records are in rising order: of the holidays ..
+abbrev pub HolidaysRise : Marks → Type 0
+HolidaysRise m = Rising day_key (held m.holidays)
+
+-- .. of the exclusions ..
+abbrev pub ExclusionsRise : Marks → Type 0
+ExclusionsRise m = Rising day_key (held m.exclusions)
+
+-- .. and of the events
+abbrev pub EventsRise : Marks → Type 0
+EventsRise m = Rising event_key (held m.events)
+
+-- every event is well placed in a day of the book
+abbrev pub EventsPlaced : Marks → Type 0
+EventsPlaced m = Placed m.resolution m.days (held m.events)
+
+-- no event reaches into a later one
+abbrev pub EventsApart : Marks → Type 0
+EventsApart m = Apart (held m.events)
+
+-- a book has 1 to 4,096 days
+abbrev pub DaysFit : Marks → Type 0
+DaysFit m = (1 ≤ m.days) × (m.days ≤ 4096)
+
+-- all of it
+pub record Orderly (m : Marks) : Type 0 where
+  pub fit : DaysFit m
+  pub holidays : HolidaysRise m
+  pub exclusions : ExclusionsRise m
+  pub events : EventsRise m
+  pub placed : EventsPlaced m
+  pub apart : EventsApart m
+
+-- marks are in order
+pub orderly : (m : Marks) → Orderly m
+orderly m = record { fit = m.fit; holidays = m.holidays.rising; exclusions = m.exclusions.rising; events = m.events.rising; placed = m.placed; apart = m.apart }
 
 -- ---- making
 

@@ -1,10 +1,9 @@
 // Making the marks of a book, its days, and the days that are marked.
-ghost use Rattle.std.specs.Prelude.{◌≡◌, length, if◌then◌else◌, Some, None};
+ghost use Rattle.std.specs.Prelude.{◌≡◌, length, Some, None, MatchResult};
+ghost use Rattle.calendar.specs.Days.{resolution_of};
 ghost use Rattle.std.specs.Result.{result_err};
 ghost use Rattle.register.specs.Held.{held};
-ghost use Rattle.register.specs.Rising.{Rising};
-ghost use Rattle.marks.specs.Keys.{day_key};
-ghost use Rattle.marks.specs.Marked.{marking, newly, marks_fault, fitting, days_in, kind_in, marked_in};
+ghost use Rattle.marks.specs.Marked.{marking, newly, marks_fault, days_in, kind_in, marked_in};
 ghost use Rattle.marks.specs.Marked.{DayMarked, DayLifted, SameButDays, days_marked};
 
 use crate::{DayMark, Event, MarkFault, MarkKind, Marks};
@@ -14,15 +13,15 @@ use register::Register;
 
 const MOST_DAYS: u32 = 4096;
 
-// The number of days, where a book may have so many.
-fn book_days(days: u32) -> Option<u16>
-    ensures { result ≡ (if fitting days then Some days else None) }
+// How the days of a book are cut, and how many it has, where it may have so many intervals a day and so many days.
+fn measures(intervals: u32, days: u32) -> Result<(Resolution, u16), MakeFault>
+    ensures { MatchResult result (λ m. (marks_fault intervals days ≡ None) × (resolution_of intervals ≡ Some m.0) × (m.1 ≡ days)) (λ e. marks_fault intervals days ≡ Some e) }
 {
-    if days >= 1 && days <= MOST_DAYS {
-        Some(days as u16)
-    } else {
-        None
+    let resolution = Resolution::try_from(intervals)?;
+    if days < 1 || days > MOST_DAYS {
+        return Err(MakeFault::Limits);
     }
+    Ok((resolution, days as u16))
 }
 
 // Marks a day, where the book has it.
@@ -49,13 +48,12 @@ impl<'a> Marks<'a> {
     pub fn check(intervals: u32, days: u32) -> Result<(), MakeFault>
         ensures { result_err result ≡ marks_fault intervals days }
     {
-        match (Resolution::of(intervals), book_days(days)) {
-            (Some(_), Some(_)) => Ok(()),
-            _ => Err(MakeFault::Limits),
-        }
+        measures(intervals, days)?;
+        Ok(())
     }
 
-    // New marks over three lent lists; where the check refuses, 48 intervals, 1 day and no slots.
+    // New marks over three lent lists; where the check refuses, 48 intervals, 1 day and no slots. The lists are no struct:
+    // callers have just made them, each of its own length.
     pub fn new(
         intervals: u32,
         days: u32,
@@ -65,21 +63,21 @@ impl<'a> Marks<'a> {
     ) -> Marks<'a>
         ensures is { marking result ≡ newly intervals days (length holidays.old) (length exclusions.old) (length events.old) }
     {
-        match (Resolution::of(intervals), book_days(days)) {
-            (Some(resolution), Some(days)) => Marks {
-                resolution,
-                days,
-                holidays: Register::new(holidays),
-                exclusions: Register::new(exclusions),
-                events: Register::new(events),
-            },
-            _ => Marks {
+        let Ok((resolution, days)) = measures(intervals, days) else {
+            return Marks {
                 resolution: Resolution::HalfHours,
                 days: 1,
                 holidays: Register::new(&mut holidays[0..0]),
                 exclusions: Register::new(&mut exclusions[0..0]),
                 events: Register::new(&mut events[0..0]),
-            },
+            };
+        };
+        Marks {
+            resolution,
+            days,
+            holidays: Register::new(holidays),
+            exclusions: Register::new(exclusions),
+            events: Register::new(events),
         }
     }
 
@@ -97,25 +95,28 @@ impl<'a> Marks<'a> {
         self.days
     }
 
+    // The days that are marked so.
+    fn register(&self, kind: MarkKind) -> &Register<'a, DayMark>
+        ensures { held result.now ≡ marked_in kind self.now }
+    {
+        match kind {
+            MarkKind::Holiday => &self.holidays,
+            MarkKind::Exclusion => &self.exclusions,
+        }
+    }
+
     // How many days are marked so.
     pub fn day_count(&self, kind: MarkKind) -> usize
         ensures { result ≡ length (marked_in kind self.now) }
     {
-        match kind {
-            MarkKind::Holiday => self.holidays.len(),
-            MarkKind::Exclusion => self.exclusions.len(),
-        }
+        self.register(kind).len()
     }
 
     // Whether the day is marked so.
     pub fn is_marked(&self, kind: MarkKind, day: u16) -> bool
         ensures { result ≡ (days_marked kind (marking self.now)).has day }
     {
-        let day = u32::from(day);
-        match kind {
-            MarkKind::Holiday => self.holidays.find(day).is_some(),
-            MarkKind::Exclusion => self.exclusions.find(day).is_some(),
-        }
+        self.register(kind).find(u32::from(day)).is_some()
     }
 
     // A day is non-business at a weekend or where it is marked a holiday, else business.
@@ -125,7 +126,8 @@ impl<'a> Marks<'a> {
         calendar::kind_on(u32::from(day), self.is_marked(MarkKind::Holiday, day))
     }
 
-    // Marks a day of the book so.
+    // Marks a day of the book so. A `match` of its own, as in `lift_day`: a call that lends either register to be changed was
+    // tried, and the prover has no rule for one, since marks have invariants.
     pub fn mark_day(&mut self, kind: MarkKind, day: u16) -> Result<(), MarkFault>
         ensures done { DayMarked (marking self.old).days (days_marked kind (marking self.old)) (days_marked kind (marking self.new)) day result }
         ensures rest { SameButDays kind (marking self.old) (marking self.new) }

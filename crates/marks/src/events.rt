@@ -13,18 +13,18 @@ use crate::{Event, MarkFault, Marks};
 use calendar::Resolution;
 
 // An event has an interval, starts four hours into its day or later, and ends by midnight.
-fn lies_in_day(resolution: Resolution, first: u32, count: u32) -> bool
-    ensures { result ≡ well_placed resolution first count }
+fn lies_in_day(resolution: Resolution, event: Event) -> bool
+    ensures { result ≡ well_placed resolution event.first event.count }
 {
     let intervals = resolution.intervals();
-    let start = first % intervals;
-    if count < 1 {
+    let start = event.first % intervals;
+    if event.count < 1 {
         return false;
     }
     if start < 4 * resolution.hour() {
         return false;
     }
-    count <= intervals - start
+    event.count <= intervals - start
 }
 
 // Whether the later of two events is in the same day and less than four clear hours after the earlier.
@@ -87,44 +87,41 @@ impl<'a> Marks<'a> {
     {
         let intervals = self.resolution.intervals();
         let rank = self.events.first_at(u32::from(day) * intervals);
-        match self.events.get(rank) {
-            Some(event) => event.first / intervals == u32::from(day),
-            None => false,
-        }
+        self.events
+            .get(rank)
+            .is_some_and(|event| event.first / intervals == u32::from(day))
     }
 
     // Whether there is an event at a rank and it starts before a place.
     fn starts_before(&self, rank: usize, place: u32) -> bool
         ensures { result ≡ starts_before place (slice_get (marking self.now).events rank) }
     {
-        match self.events.get(rank) {
-            Some(event) => event.first < place,
-            None => false,
-        }
+        self.events
+            .get(rank)
+            .is_some_and(|event| event.first < place)
     }
 
     // Whether there is an event at a rank and it ends after a place.
     fn ends_after(&self, rank: usize, place: u32) -> bool
         ensures { result ≡ ends_after place (slice_get (marking self.now).events rank) }
     {
-        match self.events.get(rank) {
-            Some(event) => event.first.saturating_add(event.count) > place,
-            None => false,
-        }
+        self.events
+            .get(rank)
+            .is_some_and(|event| event.first.saturating_add(event.count) > place)
     }
 
     // Whether an event overlaps one that is marked.
-    fn overlaps(&self, first: u32, count: u32) -> bool
-        ensures { first + count < 4294967296 → result ≡ some_of (overlapping first count) (marking self.now).events }
+    fn overlaps(&self, event: Event) -> bool
+        ensures { event.first + event.count < 4294967296 → result ≡ some_of (overlapping event.first event.count) (marking self.now).events }
     {
-        let rank = self.events.first_at(first);
-        if self.starts_before(rank, first.saturating_add(count)) {
+        let rank = self.events.first_at(event.first);
+        if self.starts_before(rank, event.first.saturating_add(event.count)) {
             return true;
         }
         if rank == 0 {
             return false;
         }
-        self.ends_after(rank - 1, first)
+        self.ends_after(rank - 1, event.first)
     }
 
     // Marks an event that is not issued: it lies in a day of the book and overlaps none.
@@ -132,20 +129,20 @@ impl<'a> Marks<'a> {
         ensures done { EventMarked (marking self.old) (marking self.new) first count result }
         ensures rest { SameButEvents (marking self.old) (marking self.new) }
     {
-        if self.day_of(first).is_none() {
-            return Err(MarkFault::DayBeyond);
-        }
-        if !lies_in_day(self.resolution, first, count) {
-            return Err(MarkFault::Misplaced);
-        }
-        if self.overlaps(first, count) {
-            return Err(MarkFault::Overlap);
-        }
         let event = Event {
             first,
             count,
             issued: false,
         };
+        if self.day_of(first).is_none() {
+            return Err(MarkFault::DayBeyond);
+        }
+        if !lies_in_day(self.resolution, event) {
+            return Err(MarkFault::Misplaced);
+        }
+        if self.overlaps(event) {
+            return Err(MarkFault::Overlap);
+        }
         self.events.insert(event)?;
         Ok(())
     }
@@ -170,6 +167,7 @@ impl<'a> Marks<'a> {
         if rank == 0 {
             return true;
         }
+        // A `match`: only here is it known that the earlier event ends before the later one starts, on which the answer rests.
         let Some(later) = self.events.get(rank) else {
             return true;
         };
@@ -179,14 +177,13 @@ impl<'a> Marks<'a> {
         }
     }
 
-    // The rank of the latest event up to this rank that leads. A `find` over the ranks would have to know that one more
-    // than a rank fits its type, which a closure's argument does not tell; the loop's range does.
+    // The rank of the latest event up to this rank that leads.
     fn lead_rank(&self, rank: usize) -> usize
         ensures { rank < length (marking self.now).events → LeadRank (marking self.now).resolution (marking self.now).events rank result }
     {
-        for earlier in (0..rank).rev() {
-            if self.leads(earlier + 1) {
-                return earlier + 1;
+        for at in (1..=rank).rev() {
+            if self.leads(at) {
+                return at;
             }
         }
         0

@@ -11,7 +11,7 @@ use calendar::{Resolution, Stretch};
 use choice::Selected;
 use store::{Reading, Store};
 
-// The most points of a unit.
+// The most points of a unit, which is no table.
 const MOST_POINTS: u32 = 16;
 
 impl Unit {

@@ -1,6 +1,6 @@
 -- Quotients rounded down. Assumes nothing.
-use Rattle.std.specs.Prelude.{ℕ, ◌*◌, ◌/◌, ◌<◌, ◌≤◌, ℤ, pos, negsuc, neg_ℤ, ◌≤ℤ◌}
-use Rattle.std.proofs.Common.{le-div_iff_mul-le, div-mul-le_self, mul-le-mul_right, le_trans, mul_right_comm, le_of_mul-le-mul_right, arith}
+use Rattle.std.specs.Prelude.{◌≡◌, ℕ, zero, suc, ◌*◌, ◌/◌, ◌<◌, ◌≤◌, ℤ, pos, negsuc, ◌+ℤ◌, ◌*ℤ◌, neg_ℤ, ◌≤ℤ◌, ◌<ℤ◌}
+use Rattle.std.proofs.Common.{le-div_iff_mul-le, div-mul-le_self, mul-le-mul_right, le_trans, mul_right_comm, le_of_mul-le-mul_right, zero-mul, arith}
 use Rattle.std.specs.Int.{int_div_euclid}
 use Rattle.std.proofs.lemmas.Int.{ints}
 use Rattle.method.specs.Baseline.{Floor}
@@ -24,6 +24,13 @@ floor_rises (negsuc a) (negsuc b) d h le =
     let l : b ≤ a = omega (arith, ints) in
     let q : b / d ≤ a / d = quotients_le b d a d h h (mul-le-mul_right d l) in
     omega (arith, ints)
+
+above_neg : (a q d : ℕ) → q * d ≤ a → negsuc a <ℤ (neg_ℤ (pos q) *ℤ pos d)
+above_neg a zero d low = omega (arith, ints, zero-mul d)
+above_neg a (suc q) d low = omega (arith, ints)
+
+one_up : (q : ℕ) → neg_ℤ (pos q) ≡ negsuc q +ℤ pos 1
+one_up q = omega (arith, ints)
 
 -- it is the floor
 pub floor_is : (x : ℤ) (d : ℕ) → 0 < d → Floor x d (int_div_euclid x (pos d))

@@ -8,6 +8,9 @@ use Rattle.method.specs.declared.energies.Energies.{Energies}
 pub sound : (e : Energies) → Sound e.v e.w e.a e.n e.m
 sound e = record { days = e.some.0; intervals = e.some.1; interval = e.limits.0; window = e.limits.1; event = e.limits.2 }
 
+pub product : (n m : ℕ) → 0 < n → 0 < m → 0 < n * m
+product n m h k = mul-pos h k
+
 -- energies over at most 65535 days of at most 65535 intervals fit 64 bits
 pub record Sizes (v w a n m : ℕ) : Type 0 where
   pub mv : m * v ≤ 21474181125000

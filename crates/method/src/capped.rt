@@ -8,7 +8,7 @@ use crate::energies::Energies;
 use crate::methodology::Methodology;
 use crate::settings::{SETTINGS, Settings};
 
-// In the order of the table of settings.
+// In the order of the table of settings, which a case indexes.
 #[derive(Clone, Copy)]
 pub enum Capped {
     AllDays,

@@ -2,7 +2,7 @@
 ghost use Rattle.std.specs.Prelude.{◌≡◌, ◌*◌, ◌<◌, ◌≤◌, MatchOption};
 ghost use Rattle.method.specs.Energy.{Sound};
 
-// The most energy of an interval.
+// The most energy of an interval, as in a meter store, on which this crate does not rest.
 const MOST: u64 = 5000;
 
 // V is the energy of the line's interval over the n days, W that of the window over them, and A that of the window on the event's day.

@@ -48,6 +48,7 @@ const TEN: Count = Count {
 };
 
 // The one table of the methodologies 1 to 5: all days, business days, non-business days, composite, similar days.
+// One constant table is a rule of the project; the cases of `Capped` are in its order, and similar days are its last row.
 pub(crate) const SETTINGS: [Settings; 5] = [
     Settings {
         only: None,

@@ -16,7 +16,7 @@ use calendar::Resolution;
 use marks::{DayMark, Event, MarkKind};
 use method::similar::SimilarDays;
 use settlement::{Book, Line, Points};
-use store::{Reading, Store};
+use store::{MOST_ENERGY, Reading, Store};
 use table::Table;
 
 // An example: its resolution, the event's day, the holiday, the energy of an interval and of the window on a past day, the
@@ -58,7 +58,7 @@ fn spread<S: Store>(store: &mut S, first: u32, count: u16, energy: u32) {
     let over = energy % u32::from(count).max(1);
     for i in 0..count {
         let more = if u32::from(i) < over { 1 } else { 0 };
-        let energy = (share.min(5000) + more) as u16;
+        let energy = (share.min(u32::from(MOST_ENERGY)) + more) as u16;
         let _ = store.enter(0, first.saturating_add(u32::from(i)), Reading { energy });
     }
 }

@@ -38,7 +38,7 @@ impl<'a, R: Record> Register<'a, R> {
         ensures is { result ≡ length (held self.now) }
         ensures within { result ≤ capacity self.now }
     {
-        self.used
+        self.records().len()
     }
 
     // Whether there is no record.

@@ -1,5 +1,6 @@
 -- An event that stands in a book lies on one of its days, and has no more intervals than a day. Assumes nothing.
-use Rattle.std.proofs.Common.{◌≡◌, ℕ, ◌<◌, ◌≤◌, Bool, true, false, ◌&&◌, Some, sym, refl, subst, arith, ltb-true}
+use Rattle.std.proofs.Common.{◌≡◌, ℕ, ◌<◌, ◌≤◌, true, Some, subst, arith, ltb-true}
+use Rattle.std.proofs.lemmas.Bool.{and_parts}
 use Rattle.std.proofs.lemmas.Bool.Decides.{nat_tests}
 use Rattle.calendar.specs.declared.Resolution.{Resolution}
 use Rattle.calendar.specs.declared.Resolution.TheVariants.{HalfHours, FiveMinutes}
@@ -12,14 +13,6 @@ use Rattle.marks.specs.Events.{day_in, well_placed, in_book}
 use Rattle.settlement.specs.declared.Book.{Book}
 use Rattle.settlement.specs.Books.{book_marking}
 use Rattle.settlement.specs.Settles.{event_in}
-
-and_first : (a b : Bool) → (a && b) ≡ true → a ≡ true
-and_first true b h = refl
-and_first false b h = h
-
-and_second : (a b : Bool) → (a && b) ≡ true → b ≡ true
-and_second true b h = h
-and_second false b h = let z : true ≡ false = sym h in let w : ◌≡◌ {A = ℕ} 0 1 = cc in absurd (omega arith)
 
 few : (r : Resolution) (f n : ℕ) → well_placed r f n ≡ true → n ≤ 288
 few HalfHours f n h = grind (arith, nat_tests)
@@ -34,7 +27,7 @@ module _ (b : Book) (first : ℕ) (e : Event) (stands : event_in (book_marking b
   pub on_a_day : day_in b.marks.resolution first < b.marks.days
   on_a_day =
       let k : e.first ≡ first = seek_key event_key first (held b.marks.events) e stands in
-      subst (λ (p : ℕ). day_in b.marks.resolution p < b.marks.days) k (ltb-true _ _ (and_first _ _ stood))
+      subst (λ (p : ℕ). day_in b.marks.resolution p < b.marks.days) k (ltb-true _ _ (and_parts _ _ stood).0)
 
   pub few_intervals : e.count ≤ 288
-  few_intervals = few b.marks.resolution e.first e.count (and_second _ _ stood)
+  few_intervals = few b.marks.resolution e.first e.count (and_parts _ _ stood).1

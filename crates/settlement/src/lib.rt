@@ -17,7 +17,8 @@ mod settling;
 
 pub use settling::{settle, settle_numbered};
 
-// A book: its marks. It forwards their calls, since it lends them to be read and not to be changed.
+// A book: its marks. Another name for them would be no plainer: a book has an account too (docs/RULES.md, "Drafts and the
+// account"), which is not built yet.
 #[derive(Drop)]
 pub struct Book<'a> {
     marks: Marks<'a>,

@@ -1,4 +1,4 @@
-// What a book answers and does: its marks, kept in order.
+// What a book answers and does: its marks.
 ghost use Rattle.std.specs.Prelude.{◌≡◌, length};
 ghost use Rattle.std.specs.Result.{result_err};
 ghost use Rattle.marks.specs.Marked.{marks_fault, marking, newly, kind_in, DayMarked, DayLifted, EventMarked, EventLifted};
@@ -18,7 +18,7 @@ impl<'a> Book<'a> {
         Marks::check(intervals, days)
     }
 
-    // A new book over three lent lists; where the check refuses, 48 intervals, 1 day and no slots.
+    // A new book over three lent lists, as in `Marks::new`; where the check refuses, 48 intervals, 1 day and no slots.
     pub fn new(
         intervals: u32,
         days: u32,

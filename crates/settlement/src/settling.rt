@@ -12,16 +12,13 @@ ghost use Rattle.settlement.specs.Settles.{Planned, Settled, SettledBy, event_in
 
 use crate::planned::Plan;
 use crate::{Book, Line, Points, SettleFault, Settlement};
-use calendar::Stretch;
+use calendar::{MOST_INTERVALS, Stretch};
 use marks::Marks;
 use metering::{Metered, SourceFault, Unit};
 use method::energies::Energies;
 use method::methodology::Methodology;
 use method::numbered::Numbered;
 use store::Store;
-
-// The most intervals in a day.
-const MOST_INTERVALS: u32 = 288;
 
 // A settlement whose every source passed its trial: the unit's meters, the plan, the methodology, and the energies of
 // the window over the selected days and on the event's day.
@@ -244,7 +241,8 @@ pub fn settle<S: Store, M: Methodology>(
     })
 }
 
-// Settles by the methodology of a number; an unknown one is declined by 21, after 18.
+// Settles by the methodology of a number; an unknown one is declined by 21, after 18. A number and not a methodology, since a
+// sheet may name one that there is not.
 pub fn settle_numbered<S: Store>(
     store: &S,
     book: &Book,

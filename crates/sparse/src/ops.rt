@@ -1,7 +1,8 @@
 // What a sparse store does: every call finds its record by the register's binary search.
-ghost use Rattle.std.specs.Prelude.{◌≡◌, length};
+ghost use Rattle.std.specs.Prelude.{◌≡◌, ◌&&◌, cond, length, None, Some, nat_lt};
 ghost use Rattle.std.specs.Result.{result_err};
 ghost use Rattle.store.specs.Meaning.{Empty};
+ghost use Rattle.store.specs.declared.StoreFault.TheVariants.{Beyond};
 ghost use Rattle.sparse.specs.Places.{sparse_fault, made_span};
 ghost use Rattle.sparse.specs.Meanings.{sparse_meaning, sparse_sound};
 
@@ -33,6 +34,17 @@ impl<'a> Sparse<'a> {
             Err(_) => Sparse { readings, span: 0 },
         }
     }
+
+    // Declined by Beyond where the store has no such place.
+    fn try_place(&self, point: u32, place: u32) -> Result<(), StoreFault>
+        ensures { result_err result ≡ cond (nat_lt point 1 && nat_lt place self.now.span) None (Some Beyond) }
+    {
+        if point < 1 && place < self.span {
+            Ok(())
+        } else {
+            Err(StoreFault::Beyond)
+        }
+    }
 }
 
 impl<'a> Store for Sparse<'a> {
@@ -49,25 +61,18 @@ impl<'a> Store for Sparse<'a> {
     }
 
     fn free(&self, point: u32) -> usize {
-        if point >= 1 {
-            return 0;
-        }
-        self.readings.free()
+        if point < 1 { self.readings.free() } else { 0 }
     }
 
     fn read(&self, point: u32, place: u32) -> Option<Reading> {
-        if point >= 1 {
-            return None;
-        }
+        self.try_place(point, place).ok()?;
         self.readings.find(place).map(|record| Reading {
             energy: record.energy,
         })
     }
 
     fn enter(&mut self, point: u32, place: u32, reading: Reading) -> Result<(), StoreFault> {
-        if point >= 1 || place >= self.span {
-            return Err(StoreFault::Beyond);
-        }
+        self.try_place(point, place)?;
         if reading.energy > MOST_ENERGY {
             return Err(StoreFault::TooLarge);
         }
@@ -82,9 +87,7 @@ impl<'a> Store for Sparse<'a> {
     }
 
     fn void(&mut self, point: u32, place: u32) -> Result<(), StoreFault> {
-        if point >= 1 || place >= self.span {
-            return Err(StoreFault::Beyond);
-        }
+        self.try_place(point, place)?;
         self.readings
             .remove(place)
             .map_err(|_| StoreFault::Nothing)?;

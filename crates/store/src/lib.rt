@@ -49,6 +49,7 @@ impl Refuse for StoreFault {
     }
 }
 
+// A point and a place stay two numbers: a layer changes one and hands the other on.
 pub trait Store {
     ghost meaning: { Self → Meaning };
 

@@ -10,7 +10,8 @@ pub struct Pair<A, B> {
     second: B,
 }
 
-// The store that has a point of the pair, and the point's number there.
+// The store that has a point of the pair, and the point's number there. The two arms of each call are alike, but call two
+// types.
 #[derive(Clone, Copy)]
 enum Side {
     First(u32),

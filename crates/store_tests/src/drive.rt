@@ -20,7 +20,12 @@ impl Draws {
 }
 
 // One call: points, places and energies are drawn inside the limits and just beyond.
-fn step<S: Store>(rt: &impl Abort, store: &mut S, model: &mut Model, draws: &mut Draws) {
+fn step<S: Store, const POINTS: usize, const SPAN: usize>(
+    rt: &impl Abort,
+    store: &mut S,
+    model: &mut Model<POINTS, SPAN>,
+    draws: &mut Draws,
+) {
     let kind = draws.next() % 8;
     let point = draws.next() % 4;
     let place = draws.next() % 10;
@@ -36,14 +41,19 @@ fn step<S: Store>(rt: &impl Abort, store: &mut S, model: &mut Model, draws: &mut
         5 => assert_eq!(rt; store.read(point, place), model.read(point, place)),
         6 => assert_eq!(rt; store.free(point), model.free(point)),
         _ => {
-            assert_eq!(rt; store.points(), model.points());
-            assert_eq!(rt; store.span(), model.span());
+            assert_eq!(rt; store.points() as usize, POINTS);
+            assert_eq!(rt; store.span() as usize, SPAN);
         }
     }
 }
 
 // The number of steps in which the store answered as its model.
-pub fn drive<S: Store>(rt: &impl Abort, store: &mut S, model: &mut Model, steps: u32) -> u32 {
+pub fn drive<S: Store, const POINTS: usize, const SPAN: usize>(
+    rt: &impl Abort,
+    store: &mut S,
+    model: &mut Model<POINTS, SPAN>,
+    steps: u32,
+) -> u32 {
     let mut draws = Draws { state: 20_240_229 };
     for _ in 0..steps {
         step(rt, store, model, &mut draws);

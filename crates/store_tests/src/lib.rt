@@ -39,7 +39,7 @@ mod tests {
         let mut readings = [0u16; 16];
         let mut present = [0u8; 2];
         let mut table = Table::new(&mut readings, &mut present, 2, 8);
-        let mut model = Model::new(2, 8, [8, 8, 0, 0]);
+        let mut model = Model::<2, 8>::new([8, 8]);
         assert_eq!(rt; drive(&rt, &mut table, &mut model, STEPS), STEPS);
         // a table has a place free wherever no reading stands
         assert_eq!(rt;
@@ -56,7 +56,7 @@ mod tests {
     fn sparse_agrees(rt: HostRuntime) {
         let mut slots = [PlacedReading::default(); 3];
         let mut sparse = Sparse::new(8, &mut slots);
-        let mut model = Model::new(1, 8, [3, 0, 0, 0]);
+        let mut model = Model::<1, 8>::new([3]);
         assert_eq!(rt; drive(&rt, &mut sparse, &mut model, STEPS), STEPS);
         assert_eq!(rt; model.entries(), ENTRIES);
         assert_eq!(rt; model.voidings(), VOIDINGS);
@@ -70,7 +70,7 @@ mod tests {
         let table = Table::new(&mut readings, &mut present, 2, 8);
         let sparse = Sparse::new(9, &mut slots);
         let mut pair = Pair::new(table, sparse);
-        let mut model = Model::new(3, 8, [8, 8, 3, 0]);
+        let mut model = Model::<3, 8>::new([8, 8, 3]);
         assert_eq!(rt; drive(&rt, &mut pair, &mut model, STEPS), STEPS);
         assert_eq!(rt; model.entries(), ENTRIES);
         assert_eq!(rt; model.voidings(), VOIDINGS);
@@ -85,7 +85,7 @@ mod tests {
         let mut sparse = Sparse::new(9, &mut slots);
         let pair = Pair::new(Lent::new(&mut table), Lent::new(&mut sparse));
         let mut clock = Clock::new(pair, 2);
-        let mut model = Model::new(3, 6, [8, 8, 3, 0]);
+        let mut model = Model::<3, 6>::new([8, 8, 3]);
         assert_eq!(rt; drive(&rt, &mut clock, &mut model, STEPS), STEPS);
         assert_eq!(rt; model.entries(), ENTRIES);
         assert_eq!(rt; model.voidings(), VOIDINGS);

@@ -1,10 +1,6 @@
 // A plain model of a store: what stands at each place of each point, and how many places are free there.
 use store::{MOST_ENERGY, Reading, StoreFault};
 
-const MOST_POINTS: usize = 4;
-
-const MOST_PLACES: usize = 16;
-
 // Which answers came.
 #[derive(Clone, Copy, PartialEq, Eq, Debug, Default)]
 pub struct Seen {
@@ -28,12 +24,12 @@ impl Seen {
 }
 
 #[derive(Clone, Copy)]
-struct Point {
+struct Point<const SPAN: usize> {
     free: usize,
-    cells: [Option<Reading>; MOST_PLACES],
+    cells: [Option<Reading>; SPAN],
 }
 
-impl Point {
+impl<const SPAN: usize> Point<SPAN> {
     fn enter(&mut self, place: usize, reading: Reading) -> Result<(), StoreFault> {
         let cell = self.cells.get_mut(place).ok_or(StoreFault::Beyond)?;
         if reading.energy > MOST_ENERGY {
@@ -55,34 +51,28 @@ impl Point {
 }
 
 #[derive(Clone, Copy)]
-pub struct Model {
-    count: u32,
-    span: u32,
-    points: [Point; MOST_POINTS],
+pub struct Model<const POINTS: usize, const SPAN: usize> {
+    points: [Point<SPAN>; POINTS],
     entries: Seen,
     voidings: Seen,
 }
 
-impl Model {
-    pub fn new(count: u32, span: u32, free: [usize; MOST_POINTS]) -> Model {
+impl<const POINTS: usize, const SPAN: usize> Model<POINTS, SPAN> {
+    // The model with no reading, and so many places free at each point.
+    pub fn new(free: [usize; POINTS]) -> Model<POINTS, SPAN> {
+        let none = Point {
+            free: 0,
+            cells: [None; SPAN],
+        };
+        let mut points = [none; POINTS];
+        for (point, free) in points.iter_mut().zip(free.iter()) {
+            point.free = *free;
+        }
         Model {
-            count,
-            span,
-            points: free.map(|free| Point {
-                free,
-                cells: [None; MOST_PLACES],
-            }),
+            points,
             entries: Seen::default(),
             voidings: Seen::default(),
         }
-    }
-
-    pub fn points(&self) -> u32 {
-        self.count
-    }
-
-    pub fn span(&self) -> u32 {
-        self.span
     }
 
     // The answers to entries.
@@ -96,34 +86,18 @@ impl Model {
     }
 
     pub fn free(&self, point: u32) -> usize {
-        if point < self.count {
-            self.points
-                .get(point as usize)
-                .map_or(0, |point| point.free)
-        } else {
-            0
+        match self.points.get(point as usize) {
+            Some(point) => point.free,
+            None => 0,
         }
     }
 
     pub fn read(&self, point: u32, place: u32) -> Option<Reading> {
-        if point < self.count && place < self.span {
-            *self.points.get(point as usize)?.cells.get(place as usize)?
-        } else {
-            None
-        }
-    }
-
-    // The point of a place, or none beyond.
-    fn point(&mut self, point: u32, place: u32) -> Option<&mut Point> {
-        if point < self.count && place < self.span {
-            self.points.get_mut(point as usize)
-        } else {
-            None
-        }
+        *self.points.get(point as usize)?.cells.get(place as usize)?
     }
 
     pub fn enter(&mut self, point: u32, place: u32, reading: Reading) -> Result<(), StoreFault> {
-        let answer = match self.point(point, place) {
+        let answer = match self.points.get_mut(point as usize) {
             Some(point) => point.enter(place as usize, reading),
             None => Err(StoreFault::Beyond),
         };
@@ -132,7 +106,7 @@ impl Model {
     }
 
     pub fn void(&mut self, point: u32, place: u32) -> Result<(), StoreFault> {
-        let answer = match self.point(point, place) {
+        let answer = match self.points.get_mut(point as usize) {
             Some(point) => point.void(place as usize),
             None => Err(StoreFault::Beyond),
         };

@@ -1,6 +1,6 @@
 -- What a table holds: readings in rows of one point each, with a presence bit for each reading. Assumes nothing.
-use Rattle.std.specs.Prelude.{◌≡◌, ℕ, ◌+◌, ◌*◌, ◌<◌, ◌≤◌, Bool, true, cond, ◌&&◌, List, length, Some, None, Option, nat_le, nat_lt, slice_index}
-use Rattle.std.proofs.Common.{arith}
+use Rattle.std.specs.Prelude.{◌≡◌, ℕ, ◌+◌, ◌*◌, ◌<◌, ◌≤◌, Bool, true, false, cond, ◌&&◌, List, length, Some, None, Option, nat_le, nat_lt, slice_index}
+use Rattle.std.proofs.Common.{refl, arith}
 use Rattle.std.proofs.lemmas.Nat.{mul-add-lt}
 use Rattle.std.proofs.lemmas.Bool.Decides.{nat_tests}
 use Rattle.refusal.specs.declared.MakeFault.{MakeFault}
@@ -56,6 +56,13 @@ pub record SameLengths (rs ps rs' ps' : List ℕ) : Type 0 where
 -- the marked cells below n have readings up to 5,000
 abbrev pub Small : ℕ → List ℕ → List ℕ → Type 0
 Small n rs ps = (k : ℕ) → (k < n) × (bit ps k ≡ true) → slice_index rs k ≤ 5000
+
+chosen_small : (b : Bool) (x : Option Reading) (v : Reading) → (b ≡ true → x ≡ Some v → v.energy ≤ 5000) → cond b x None ≡ Some v → v.energy ≤ 5000
+chosen_small true x v f e = f refl e
+chosen_small false x v f e = absurd cc
+
+some_small : (w : ℕ) (v : Reading) → w ≤ 5000 → Some (record { energy = w }) ≡ Some v → v.energy ≤ 5000
+some_small w v h e = let z : w ≡ v.energy = cc in omega arith
 
 -- a table within its limits, with small readings, is what every store owes
 pub grid_sound : (points span : ℕ) (rs ps : List ℕ) → (1 ≤ points) × (points ≤ 16) × (span ≤ 1179648) → Small (points * span) rs ps → Sound (grid points span rs ps)

@@ -13,7 +13,8 @@ use store::{MOST_ENERGY, MOST_SPAN, Reading, Store, StoreFault};
 
 mod presence;
 
-const MOST_POINTS: u32 = 16;
+// The most points of a table.
+pub const MOST_POINTS: u32 = 16;
 
 // The cell of a place is point * span + place; its bit lies in the map with no gap between the points.
 // Readings and bits are two lists, since a caller lends both, and bits take an eighth of a byte each.

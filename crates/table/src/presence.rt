@@ -1,4 +1,5 @@
 // The presence map: one bit for each cell, eight cells to a byte, the lowest first.
+// That a cell lies in the map is asked by each call and held by no type, since each call has a cell of its own.
 ghost use Rattle.std.specs.Prelude.{◌≡◌, ◌+◌, ◌-◌, ◌*◌, ◌/◌, ◌^◌, ◌<◌, ◌≤◌, length, sum_by, count_ones};
 ghost use Rattle.table.specs.Presence.{clear, marked, Cleared};
 

@@ -16,8 +16,7 @@ pub returns-in_default : goal.returns-in_default
 returns-in_default c h d =
     let n = slice_get-get_or (held c.args.self.now.events) c.args.rank d h in
     let g = c.in_default.ensures in
-    let z : ◌≡◌ {A = ℕ} 0 1 = cc in
-    absurd (omega arith)
+    absurd cc
 
 pub returns-in-Some-get : goal.returns-in-Some-get
 returns-in-Some-get c h d =
@@ -35,5 +34,4 @@ pub returns-in-None : goal.returns-in-None
 returns-in-None c h d =
     let n = slice_get-get_or (held c.args.self.now.events) (c.args.rank - 1) d (omega arith) in
     let g : slice_get (held c.args.self.now.events) (c.args.rank - 1) ≡ None = sym c.get-2.ensures ∙ c.in-None.is in
-    let z : ◌≡◌ {A = ℕ} 0 1 = cc in
-    absurd (omega arith)
+    absurd cc

@@ -9,8 +9,8 @@ pub returns-then-starts_before : goal.returns-then-starts_before
 returns-then-starts_before c h =
     let s = c.args.self.now in
     let es = held s.events in
-    let f = c.args.first in
-    let n = c.args.count in
+    let f = c.args.event.first in
+    let n = c.args.event.count in
     let i = c.first_at-rank.result in
     let e : c.saturating_add.result ≡ f + n = omega (arith, c.saturating_add.ensures) in
     let t : starts_before (f + n) (slice_get es i) ≡ true = ap (λ p. starts_before p (slice_get es i)) (sym e) ∙ sym c.starts_before.ensures ∙ c.if-starts_before.true in
@@ -20,8 +20,8 @@ pub returns-then-rank-eq0 : goal.returns-then-rank-eq0
 returns-then-rank-eq0 c h =
     let s = c.args.self.now in
     let es = held s.events in
-    let f = c.args.first in
-    let n = c.args.count in
+    let f = c.args.event.first in
+    let n = c.args.event.count in
     let i = c.first_at-rank.result in
     let e : c.saturating_add.result ≡ f + n = omega (arith, c.saturating_add.ensures) in
     let t : starts_before (f + n) (slice_get es i) ≡ false = ap (λ p. starts_before p (slice_get es i)) (sym e) ∙ sym c.starts_before.ensures ∙ c.if-starts_before.false in
@@ -31,8 +31,8 @@ pub returns : goal.returns
 returns c h =
     let s = c.args.self.now in
     let es = held s.events in
-    let f = c.args.first in
-    let n = c.args.count in
+    let f = c.args.event.first in
+    let n = c.args.event.count in
     let i = c.first_at-rank.result in
     let e : c.saturating_add.result ≡ f + n = omega (arith, c.saturating_add.ensures) in
     let t : starts_before (f + n) (slice_get es i) ≡ false = ap (λ p. starts_before p (slice_get es i)) (sym e) ∙ sym c.starts_before.ensures ∙ c.if-starts_before.false in

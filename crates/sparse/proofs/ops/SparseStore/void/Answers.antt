@@ -1,4 +1,5 @@
-use Rattle.std.proofs.Common.{None, is_ok, sym, ap, ◌∙◌}
+use Rattle.std.proofs.Common.{◌<◌, None, is_ok, sym, ap, ◌∙◌, arith}
+use Rattle.std.proofs.lemmas.Bool.Decides.{nat_tests}
 use Rattle.register.specs.Held.{held, capacity}
 use Rattle.register.proofs.Shifts.{front_within}
 use Rattle.sparse.proofs.Changes.{placed_after, fitting_none, voided}
@@ -13,5 +14,6 @@ pub returns : goal.returns
 returns c =
     let s = c.args.self.now in
     let r = c.remove.ensures in
+    let here : (c.args.point < 1) × (c.args.place < s.span) = grind (arith, nat_tests, c.try_place.ensures, c.in_ok-try_place.was) in
     let ok = sym c.map_err.ensures.variant ∙ ap is_ok c.in_ok-map_err.was in
-    voided s.span (capacity s.readings) (capacity c.remove.new.self) (held s.readings) (held c.remove.new.self) c.args.point c.args.place c.remove.result ok c.if-point-ge1.false c.if-place-self.false s.readings.rising (front_within s.readings.used s.readings.slots.now) r.done r.finds r.counts r.room
+    voided s.span (capacity s.readings) (capacity c.remove.new.self) (held s.readings) (held c.remove.new.self) c.args.point c.args.place c.remove.result ok here.0 here.1 s.readings.rising (front_within s.readings.used s.readings.slots.now) r.done r.finds r.counts r.room
