@@ -38,7 +38,8 @@ impl TryFrom<u32> for Resolution {
 
     fn try_from(intervals: u32) -> Result<Resolution, MakeFault> {
         [Resolution::HalfHours, Resolution::FiveMinutes]
-            .into_iter()
+            .iter()
+            .copied()
             .find(|resolution| resolution.intervals() == intervals)
             .ok_or(MakeFault::Limits)
     }

@@ -4,7 +4,7 @@ ghost use Rattle.nest.specs.Runs.{Fresh, seen};
 
 use crate::Seen;
 use sparse::{PlacedReading, Sparse};
-use store::{Clock, Pair, Reading, Store};
+use store::{Clock, Lent, Pair, Reading, Store};
 use table::Table;
 
 const AHEAD: u32 = 2;
@@ -25,15 +25,16 @@ fn run<S: Store>(store: &mut S, x: u16, y: u16) -> Seen
     }
 }
 
-// The run through a clock 2 ahead, over a table of 2 points and a sparse store with 3 slots, of 8 places each.
+// The run through a clock 2 ahead, over a table of 2 points, which is lent, and a sparse store with 3 slots, of 8 places each.
 pub fn through_layers(x: u16, y: u16) -> Seen
     ensures { result ≡ seen x y }
 {
     let mut readings = [0u16; 16];
     let mut present = [0u8; 2];
     let mut slots = [PlacedReading::default(); 3];
-    let table = Table::new(&mut readings, &mut present, 2, 8);
+    let mut table = Table::new(&mut readings, &mut present, 2, 8);
     let sparse = Sparse::new(8, &mut slots);
-    let mut store = Clock::new(Pair::new(table, sparse), AHEAD);
+    let pair = Pair::new(Lent::new(&mut table), sparse);
+    let mut store = Clock::new(pair, AHEAD);
     run(&mut store, x, y)
 }

@@ -1,7 +1,9 @@
 -- Where a key stands in a rising list. Assumes nothing.
-use Rattle.std.proofs.Common.{◌≡◌, ℕ, zero, suc, ◌<◌, ◌≤◌, Bool, true, false, cond, eqb, leb, ltb, List, [], ◌∷◌, length, get_or, Some, None, Result, Ok, Err, sym, refl, ap, ◌∙◌, ⊎_elim, arith}
+use Rattle.std.proofs.Common.{◌≡◌, ℕ, zero, suc, ◌-◌, ◌<◌, ◌≤◌, Bool, true, false, cond, eqb, leb, ltb, List, [], ◌∷◌, length, get_or, Some, None, Option, Result, Ok, Err, sym, refl, ap, ◌∙◌, ⊎_elim, arith}
+use Rattle.std.specs.List.{slice_get}
 use Rattle.std.specs.List.Sorted.{IsBinarySearchResult, IsPartitionPoint, IsPartitionedBy, IsSearchInRange}
 use Rattle.std.specs.Ordering.{nat_cmp}
+use Rattle.std.proofs.lemmas.Option.{slice_get-get_or}
 use Rattle.std.proofs.lemmas.Cmp.{ranked}
 use Rattle.std.proofs.lemmas.Bool.{ltb-true, ltb-false, cases_lt, ne_eqb, leb-true, leb-false, cond-false}
 use Rattle.std.proofs.lemmas.Bool.Decides.{nat_tests}
@@ -99,4 +101,16 @@ located key k xs rise (Err i) l h =
       l,
       split_is_spot key k xs i l low (λ j d m n. omega (arith, high j d m n)),
       absent key k xs (λ j d n e. ⊎_elim (λ m. omega (arith, low j d m)) (λ m. omega (arith, high j d m n)) (cases_lt j i)),
+    )
+
+-- a key above the last of a rising list has its place at the end
+pub past_last : {X : Type 0} (key : X → ℕ) (k : ℕ) (xs : List X) → Rising key xs → (last : Option X) → last ≡ slice_get xs (length xs - 1) → ((y : X) → last ≡ Some y → key y < k) → Located key k xs (Err (length xs))
+past_last key k xs rise last is below =
+    let low : (j : ℕ) (d : _) → j < length xs → key (get_or xs j d) < k = λ j d m.
+    let at = below (get_or xs (length xs - 1) d) (is ∙ slice_get-get_or xs (length xs - 1) d (omega arith)) in
+    omega (arith, at, rises key xs rise j (length xs - 1) d (omega arith) (omega arith))
+    in (
+      omega arith,
+      split_is_spot key k xs (length xs) (omega arith) low (λ j d m n. absurd (omega arith)),
+      absent key k xs (λ j d n e. omega (arith, low j d n)),
     )

@@ -70,12 +70,18 @@ impl<'a, R: Record> Register<'a, R> {
         self.records().get(rank).copied()
     }
 
-    // Where `key` stands, or where it would stand.
+    // Where `key` stands, or where it would stand. Records often come in the order of their keys: one above the last is at the
+    // end with no search.
     fn locate(&self, key: u32) -> Result<usize, usize>
         ensures { Located R.keyed key (held self.now) result }
     {
-        self.records()
-            .binary_search_by_key(&key, |record| record.key())
+        let list = self.records();
+        match list.last() {
+            Some(last) if key <= last.key() => {
+                list.binary_search_by_key(&key, |record| record.key())
+            }
+            _ => Err(list.len()),
+        }
     }
 
     // The record with the key `key`.

@@ -1,4 +1,5 @@
 // A clock serves a meter that runs k intervals ahead: its place p is place p + k of the store below.
+// What reads, enters and voids is inlined, since each of these goes through all layers.
 ghost use Rattle.std.specs.Prelude.{◌≡◌, ◌+◌, cond, Some, None, nat_lt};
 ghost use Rattle.std.specs.Result.{result_err};
 ghost use Rattle.store.specs.Shifts.{shifted, shifted_sound, clock_fault, ahead_of};
@@ -38,6 +39,7 @@ impl<S: Store> Clock<S> {
     }
 
     // The place below, or none beyond the span.
+    #[inline(always)]
     fn place_below(&self, place: u32) -> Option<u32>
         ensures { let k = place + self.now.ahead in result ≡ cond (nat_lt k (S.meaning self.now.below).span) (Some k) None }
     {
@@ -63,16 +65,19 @@ impl<S: Store> Store for Clock<S> {
         self.below.free(point)
     }
 
+    #[inline(always)]
     fn read(&self, point: u32, place: u32) -> Option<Reading> {
         let below = self.place_below(place)?;
         self.below.read(point, below)
     }
 
+    #[inline(always)]
     fn enter(&mut self, point: u32, place: u32, reading: Reading) -> Result<(), StoreFault> {
         let below = self.place_below(place).ok_or(StoreFault::Beyond)?;
         self.below.enter(point, below, reading)
     }
 
+    #[inline(always)]
     fn void(&mut self, point: u32, place: u32) -> Result<(), StoreFault> {
         let below = self.place_below(place).ok_or(StoreFault::Beyond)?;
         self.below.void(point, below)

@@ -1,4 +1,5 @@
 // Two stores as one: the first's points, then the second's, cut at 4,096; the smaller span.
+// What reads, enters and voids is inlined, since each of these goes through all layers.
 ghost use Rattle.std.specs.Prelude.{◌≡◌, cond, None, nat_lt};
 ghost use Rattle.store.specs.Pairs.{paired, paired_sound, side_of, span_of};
 
@@ -27,6 +28,7 @@ impl<A: Store, B: Store> Pair<A, B> {
     }
 
     // The side of a point, or none beyond.
+    #[inline(always)]
     fn side(&self, point: u32) -> Option<Side>
         ensures { result ≡ side_of (A.meaning self.now.first) (B.meaning self.now.second) point }
     {
@@ -42,6 +44,7 @@ impl<A: Store, B: Store> Pair<A, B> {
     }
 
     // The side of a place of a point, or none beyond.
+    #[inline(always)]
     fn side_of_place(&self, point: u32, place: u32) -> Option<Side>
         ensures { let a = A.meaning self.now.first in let b = B.meaning self.now.second in result ≡ cond (nat_lt place (span_of a b)) (side_of a b point) None }
     {
@@ -74,6 +77,7 @@ impl<A: Store, B: Store> Store for Pair<A, B> {
         }
     }
 
+    #[inline(always)]
     fn read(&self, point: u32, place: u32) -> Option<Reading> {
         match self.side_of_place(point, place)? {
             Side::First(there) => self.first.read(there, place),
@@ -81,6 +85,7 @@ impl<A: Store, B: Store> Store for Pair<A, B> {
         }
     }
 
+    #[inline(always)]
     fn enter(&mut self, point: u32, place: u32, reading: Reading) -> Result<(), StoreFault> {
         match self.side_of_place(point, place).ok_or(StoreFault::Beyond)? {
             Side::First(there) => self.first.enter(there, place, reading),
@@ -88,6 +93,7 @@ impl<A: Store, B: Store> Store for Pair<A, B> {
         }
     }
 
+    #[inline(always)]
     fn void(&mut self, point: u32, place: u32) -> Result<(), StoreFault> {
         match self.side_of_place(point, place).ok_or(StoreFault::Beyond)? {
             Side::First(there) => self.first.void(there, place),

@@ -1,7 +1,8 @@
 // A sequence of drawn calls, each answered by a store and by its model.
-use crate::model::Model;
+use crate::model::{Model, told};
+use refusal::Refuse;
 use std::process::Abort;
-use store::{Reading, Store};
+use store::{Reading, Store, StoreFault};
 
 // A linear congruential generator.
 #[derive(Clone, Copy)]
@@ -19,6 +20,14 @@ impl Draws {
     }
 }
 
+// The number of a refusal, 0 of a call that was done.
+fn number(answer: Result<(), StoreFault>) -> u8 {
+    match answer {
+        Ok(()) => 0,
+        Err(fault) => fault.number(),
+    }
+}
+
 // One call: points, places and energies are drawn inside the limits and just beyond.
 fn step<S: Store, const POINTS: usize, const SPAN: usize>(
     rt: &impl Abort,
@@ -33,11 +42,16 @@ fn step<S: Store, const POINTS: usize, const SPAN: usize>(
         energy: (draws.next() % 5101) as u16,
     };
     match kind {
-        0..=2 => assert_eq!(rt;
-            store.enter(point, place, reading),
-            model.enter(point, place, reading)
-        ),
-        3..=4 => assert_eq!(rt; store.void(point, place), model.void(point, place)),
+        0..=2 => {
+            let answer = store.enter(point, place, reading);
+            assert_eq!(rt; answer, model.enter(point, place, reading));
+            assert_eq!(rt; number(answer), told(answer));
+        }
+        3..=4 => {
+            let answer = store.void(point, place);
+            assert_eq!(rt; answer, model.void(point, place));
+            assert_eq!(rt; number(answer), told(answer));
+        }
         5 => assert_eq!(rt; store.read(point, place), model.read(point, place)),
         6 => assert_eq!(rt; store.free(point), model.free(point)),
         _ => {

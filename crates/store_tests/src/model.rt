@@ -1,5 +1,20 @@
-// A plain model of a store: what stands at each place of each point, and how many places are free there.
-use store::{MOST_ENERGY, Reading, StoreFault};
+// A plain model of a store: what stands at each place of each point, and how many places are free there. Its limit and its
+// numbers are its own.
+use store::{Reading, StoreFault};
+
+// The most energy of a reading.
+const MOST_ENERGY: u16 = 5000;
+
+// The number by which a refusal is told, 0 for a call that was done.
+pub fn told(answer: Result<(), StoreFault>) -> u8 {
+    match answer {
+        Ok(()) => 0,
+        Err(StoreFault::Beyond) => 1,
+        Err(StoreFault::TooLarge) => 2,
+        Err(StoreFault::Full) => 3,
+        Err(StoreFault::Nothing) => 4,
+    }
+}
 
 // Which answers came.
 #[derive(Clone, Copy, PartialEq, Eq, Debug, Default)]
