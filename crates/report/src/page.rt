@@ -25,12 +25,15 @@ impl Page<'_> {
         self.at = next;
     }
 
-    // Writes a number and the byte that ends it.
+    // Writes a number and the byte that ends it: the minus, the digits and the end, as `width` counts them.
     pub(crate) fn put_number(&mut self, number: i64, end: u8)
         requires { self.old.at + length (piece number end) ≤ length self.old.text.now }
         ensures { Written self.old (piece number end) self.new }
     {
-        self.put(Buffer::new().format(number).as_bytes());
+        if number < 0 {
+            self.put(b"-");
+        }
+        self.put(Buffer::new().format(number.unsigned_abs()).as_bytes());
         self.put(&[end]);
     }
 
